@@ -1,0 +1,1 @@
+//! Identities of integer polynomials, and bounds of machine arithmetic: proofs only.
