@@ -1,14 +1,14 @@
 -- The number and the layer of each cause of a refusal.
 use Prim.Native.Nat.{ℕ}
 use Rattle.drawing.specs.declared.fault.Cause.{Cause}
-use Rattle.drawing.specs.declared.fault.Cause.the-variants.{TableCount, Coordinate, Chain, PointNumber, LoosePoint, DoublePoint, UnmatchedEdge, PinchedPoint, UnreachedEdge, BentFace, LevelFaces, NoVolume}
+use Rattle.drawing.specs.declared.fault.Cause.the-variants.{TableCount, Coordinate, BrokenChain, PointNumber, LoosePoint, DoublePoint, UnmatchedEdge, PinchedPoint, UnreachedEdge, BentFace, LevelFaces, NoVolume}
 use Rattle.drawing.specs.declared.fault.Layer.{Layer}
 use Rattle.drawing.specs.declared.fault.Layer.the-variants.{Tables, Shape}
 
 abbrev pub number : Cause → ℕ
 number TableCount = 1
 number Coordinate = 2
-number Chain = 3
+number BrokenChain = 3
 number PointNumber = 4
 number LoosePoint = 5
 number DoublePoint = 6
@@ -22,7 +22,7 @@ number NoVolume = 12
 abbrev pub layer : Cause → Layer
 layer TableCount = Tables
 layer Coordinate = Tables
-layer Chain = Tables
+layer BrokenChain = Tables
 layer PointNumber = Tables
 layer LoosePoint = Tables
 layer DoublePoint = Tables

@@ -15,14 +15,14 @@ noCorner = record { point = 0; mark = 0; next = 0 }
 abbrev pub nextIndex : List Corner → ℕ → ℕ
 nextIndex cs k = getD cs k noCorner .next
 
--- From the corner number r on, the next indices lead through just these corners, and then to zero.
-abbrev pub Follows : List Corner → ℕ → List ℕ → Type 0
-Follows cs r [] = r ≡ 0
-Follows cs r (k ∷ ks) = (r ≡ k + 1) × (k < length cs) × Follows cs (nextIndex cs k) ks
+-- From the corner number r on, the next indices lead through just these corners to the number s.
+abbrev pub Follows : List Corner → ℕ → List ℕ → ℕ → Type 0
+Follows cs r [] s = r ≡ s
+Follows cs r (k ∷ ks) s = (r ≡ k + 1) × (k < length cs) × Follows cs (nextIndex cs k) ks s
 
--- The chain of a face has three corners or more.
-pub record Chain (cs : List Corner) (f : Face) (ks : List ℕ) : Type 0 where
-  pub follows : Follows cs (f .first) ks
+-- The chain from a first corner: the corners up to a next index of zero, three or more.
+pub record Chain (cs : List Corner) (first : ℕ) (ks : List ℕ) : Type 0 where
+  pub follows : Follows cs first ks 0
   pub three : 3 ≤ length ks
 
 -- one chain to a face, in order
@@ -30,12 +30,17 @@ abbrev pub EachChain : List Corner → List Face → List (List ℕ) → Type 0
 EachChain cs [] [] = Unit {0}
 EachChain cs [] (ks ∷ rounds) = ⊥
 EachChain cs (f ∷ fs) [] = ⊥
-EachChain cs (f ∷ fs) (ks ∷ rounds) = Chain cs f ks × EachChain cs fs rounds
+EachChain cs (f ∷ fs) (ks ∷ rounds) = Chain cs (f .first) ks × EachChain cs fs rounds
 
 -- The chains of the faces, in which no corner is met twice.
 pub record Rounds (cs : List Corner) (fs : List Face) (rounds : List (List ℕ)) : Type 0 where
   pub chains : EachChain cs fs rounds
   pub apart : Distinct (flat rounds)
+
+-- What stands at each corner of a chain is the chain's first corner.
+abbrev pub AtHome : List ℕ → List ℕ → Type 0
+AtHome home [] = Unit {0}
+AtHome home (k ∷ ks) = All (λ j. at home j ≡ k) (k ∷ ks)
 
 -- The chains of the faces, which meet each corner once, and the list of next edges, which goes round each chain.
 pub record Linked (cs : List Corner) (fs : List Face) (next : List ℕ) : Type 0 where

@@ -11,7 +11,7 @@ use Rattle.solid.specs.Points.{Near}
 use Rattle.drawing.specs.declared.record.Corner.{Corner}
 use Rattle.drawing.specs.declared.record.Face.{Face}
 use Rattle.drawing.specs.declared.fault.Cause.{Cause}
-use Rattle.drawing.specs.declared.fault.Cause.the-variants.{TableCount, Coordinate, Chain, PointNumber, LoosePoint, DoublePoint, UnmatchedEdge, PinchedPoint, UnreachedEdge, BentFace, LevelFaces, NoVolume}
+use Rattle.drawing.specs.declared.fault.Cause.the-variants.{TableCount, Coordinate, BrokenChain, PointNumber, LoosePoint, DoublePoint, UnmatchedEdge, PinchedPoint, UnreachedEdge, BentFace, LevelFaces, NoVolume}
 use Rattle.drawing.specs.declared.fault.Fault.{Fault}
 use Rattle.drawing.specs.Causes.{number}
 use Rattle.drawing.specs.Lowest.{Lowest}
@@ -37,6 +37,12 @@ pub record Counts (points corners faces : ℕ) : Type 0 where
   pub faces-from : 4 ≤ faces
   pub faces-to : faces ≤ 160
 
+-- 1. A refusal for a count that is not, which has no place.
+pub record CountRefused (points corners faces : ℕ) (f : Fault) : Type 0 where
+  pub cause-is : f .cause ≡ TableCount
+  pub place-is : f .place ≡ 0
+  pub outside : Counts points corners faces → ⊥
+
 -- 3. The first f + 1 faces have chains, in which no corner is met twice.
 pub record Followed (cs : List Corner) (fs : List Face) (f : ℕ) : Type 0 where
   pub rounds : List (List ℕ)
@@ -49,6 +55,10 @@ pub record Missed (cs : List Corner) (fs : List Face) : Type 0 where
   pub corner : ℕ
   pub within : corner < length cs
   pub missing : corner ∈ flat rounds → ⊥
+
+-- 3. The lowest face at which there are no such chains; or, at place 0, that they miss a corner.
+abbrev pub ChainFails : List Corner → List Face → ℕ → Type 0
+ChainFails cs fs p = Lowest (length fs) (λ f. Followed cs fs f → ⊥) p ⊎ ((p ≡ 0) × Missed cs fs)
 
 -- 4. The corner k names one of the points.
 pub record Named (cs : List Corner) (points k : ℕ) : Type 0 where
@@ -87,7 +97,7 @@ pub record Drawn (t : Tables) (P : Net → Type 0) : Type 0 where
 abbrev pub Fails : Tables → Cause → ℕ → Type 0
 Fails t TableCount p = (p ≡ 0) × (Counts (length (t .points)) (length (t .corners)) (length (t .faces)) → ⊥)
 Fails t Coordinate p = Lowest (length (t .points)) (λ q. Near (getD (t .points) q noPoint) → ⊥) p
-Fails t Chain p = Lowest (length (t .faces)) (λ f. Followed (t .corners) (t .faces) f → ⊥) p ⊎ ((p ≡ 0) × Missed (t .corners) (t .faces))
+Fails t BrokenChain p = ChainFails (t .corners) (t .faces) p
 Fails t PointNumber p = Lowest (length (t .corners)) (λ k. Named (t .corners) (length (t .points)) k → ⊥) p
 Fails t LoosePoint p = Lowest (length (t .points)) (λ q. Used (t .corners) q → ⊥) p
 Fails t DoublePoint p = Lowest (length (t .points)) (Repeated (t .points)) p

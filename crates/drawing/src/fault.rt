@@ -14,7 +14,7 @@ pub enum Layer {
 pub enum Cause {
     TableCount,
     Coordinate,
-    Chain,
+    BrokenChain,
     PointNumber,
     LoosePoint,
     DoublePoint,
@@ -34,7 +34,7 @@ impl Cause {
         match self {
             Cause::TableCount => 1,
             Cause::Coordinate => 2,
-            Cause::Chain => 3,
+            Cause::BrokenChain => 3,
             Cause::PointNumber => 4,
             Cause::LoosePoint => 5,
             Cause::DoublePoint => 6,

@@ -1,0 +1,3 @@
+mod Meeting
+mod Stepping
+mod Completing
