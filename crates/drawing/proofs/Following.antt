@@ -2,15 +2,15 @@
 use mathlib.Core.Path.{_≡_, refl, sym, _∙_, ap}
 use mathlib.Core.Logic.{_⊎_, inl, inr}
 use mathlib.Core.List.{List, [], _∷_, _++_}
-use Prim.Native.Nat.{ℕ, _+_, _<_}
+use Prim.Native.Nat.{ℕ, zero, suc, _+_, _<_}
 use native.Mathlib.Omega.{arith}
-use lib.ListN.{length}
-use Rattle.std.proofs.shelf.Lists.{append-nil, append-assoc}
+use lib.ListN.{length, take, drop}
+use Rattle.std.proofs.shelf.Lists.{append-nil, append-assoc, take-append-drop}
 use Rattle.drawing.specs.declared.record.Corner.{Corner}
 use Rattle.drawing.specs.declared.record.Face.{Face}
 use Rattle.drawing.specs.Lists.{_∈_, flat}
-use Rattle.drawing.specs.Chains.{nextIndex, Follows, Chain, EachChain}
-use Rattle.drawing.proofs.Members.{in-cases}
+use Rattle.drawing.specs.Chains.{nextIndex, Follows, Chain, EachChain, Rounds}
+use Rattle.drawing.proofs.Members.{in-cases, distinct-left}
 
 module _ (cs : List Corner) where
   pub follows-push : (r : ℕ) (ks : List ℕ) (s k : ℕ) → Follows cs r ks s → s ≡ k + 1 → k < length cs → Follows cs r (ks ++ (k ∷ [])) (nextIndex cs k)
@@ -89,3 +89,22 @@ module _ (cs : List Corner) where
 pub flat-push : (rounds : List (List ℕ)) (ks : List ℕ) → flat (rounds ++ (ks ∷ [])) ≡ flat rounds ++ ks
 flat-push [] ks = append-nil ks
 flat-push (js ∷ rounds) ks = rw (flat-push rounds ks) (sym (append-assoc js (flat rounds) ks))
+
+flat-append : (xss yss : List (List ℕ)) → flat (xss ++ yss) ≡ flat xss ++ flat yss
+flat-append [] yss = refl
+flat-append (xs ∷ xss) yss = rw (flat-append xss yss) (sym (append-assoc xs (flat xss) (flat yss)))
+
+each-take : (cs : List Corner) (m : ℕ) (fs : List Face) (rounds : List (List ℕ)) → EachChain cs fs rounds → EachChain cs (take m fs) (take m rounds)
+each-take cs zero fs rounds e = tt
+each-take cs (suc m) [] [] e = tt
+each-take cs (suc m) [] (ks ∷ rounds) e = absurd e
+each-take cs (suc m) (f ∷ fs) [] e = absurd e
+each-take cs (suc m) (f ∷ fs) (ks ∷ rounds) e = (e .0, each-take cs m fs rounds (e .1))
+
+-- where all faces have chains, so have the first of them
+pub rounds-take : (cs : List Corner) (fs : List Face) (rounds : List (List ℕ)) (m : ℕ) → Rounds cs fs rounds → Rounds cs (take m fs) (take m rounds)
+rounds-take cs fs rounds m r = record {
+  chains = each-take cs m fs rounds (r .chains);
+  apart = distinct-left (flat (take m rounds)) (flat (drop m rounds))
+    (rw (sym (flat-append (take m rounds) (drop m rounds)), take-append-drop m rounds) (r .apart));
+}

@@ -1,2 +1,6 @@
 pub mod Members
 pub mod Following
+pub mod Linking
+pub mod Lows
+pub mod Passing
+pub mod Judgement

@@ -28,7 +28,7 @@ abbrev noFace : Face
 noFace = record { first = 0 }
 
 -- homes that are kept on the corners of some chains
-homes-kept : (home after : List ℕ) (rounds : List (List ℕ)) → ((k : ℕ) → k ∈ flat rounds → at after k ≡ at home k) → All (AtHome home) rounds → All (AtHome after) rounds
+pub homes-kept : (home after : List ℕ) (rounds : List (List ℕ)) → ((k : ℕ) → k ∈ flat rounds → at after k ≡ at home k) → All (AtHome home) rounds → All (AtHome after) rounds
 homes-kept home after [] same h = tt
 homes-kept home after (ks ∷ rounds) same h =
     (one ks (λ k m. same k (in-left k ks (flat rounds) m)) (h .0), homes-kept home after rounds (λ k m. same k (in-right k ks (flat rounds) m)) (h .1))

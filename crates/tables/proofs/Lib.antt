@@ -1,3 +1,15 @@
 mod Meeting
 mod Stepping
 mod Completing
+mod Marking
+mod Judging
+mod Naming
+mod Bucketing
+mod Tallying
+mod Cycles
+mod Turning
+mod Searching
+mod Joining
+mod Meshing
+mod Counting
+mod Wholly
