@@ -2,9 +2,11 @@
 use mathlib.Core.Path.{_≡_, refl, sym, _∙_}
 use mathlib.Core.Logic.{_⊎_, inl, inr}
 use mathlib.Core.List.{List, [], _∷_, _++_, map}
-use Prim.Native.Nat.{ℕ}
+use Prim.Native.Nat.{ℕ, zero, suc, _<_}
+use native.Mathlib.Omega.{arith}
+use lib.ListN.{length}
 use Rattle.std.specs.shelf.Lists.{All}
-use Rattle.drawing.specs.Lists.{_∈_, Distinct, flat, rotated}
+use Rattle.drawing.specs.Lists.{at, _∈_, Distinct, flat, rotated}
 
 pub in-left : (x : ℕ) (xs ys : List ℕ) → x ∈ xs → x ∈ (xs ++ ys)
 in-left x [] ys h = absurd h
@@ -73,3 +75,8 @@ all-in P (y ∷ xs) a x (inr h) = all-in P xs (a .1) x h
 pub all-from-in : (P : ℕ → Type 0) (xs : List ℕ) → ((x : ℕ) → x ∈ xs → P x) → All P xs
 all-from-in P [] f = tt
 all-from-in P (y ∷ xs) f = (f y (inl refl), all-from-in P xs (λ x h. f x (inr h)))
+
+pub in-at : (xs : List ℕ) (k : ℕ) → k < length xs → at xs k ∈ xs
+in-at [] k lt = absurd (omega arith)
+in-at (x ∷ xs) zero lt = inl refl
+in-at (x ∷ xs) (suc k) lt = inr (in-at xs k (omega arith))

@@ -38,7 +38,7 @@ fn wedges(
 
 /// The faces enclose a positive volume; else the drawing as a whole is refused.
 /// `order` lists the corners chain by chain, and `home` leads from each to the first corner of its chain.
-pub fn positive_volume(
+pub(crate) fn positive_volume(
     points: &[Point],
     starts: &[usize],
     next: &[usize],

@@ -14,7 +14,7 @@ use drawing::fault::Fault;
 use solid::Point;
 
 /// Each edge lies in one plane with the two that follow it; else the lowest edge that does not is refused.
-pub fn flat_faces(points: &[Point], starts: &[usize], next: &[usize]) -> Result<(), Fault>
+pub(crate) fn flat_faces(points: &[Point], starts: &[usize], next: &[usize]) -> Result<(), Fault>
     requires placed { ⌜ Placed (now points) (now starts) ⌝ }
     requires nexts { ⌜ EdgeList (length (now starts)) (now next) ⌝ }
     ensures { λ r. ⌜ (let m = shown (now (points .entry)) (now (starts .entry)) (now (next .entry)) [] in Judges BentFace (length (now (starts .entry))) (λ e. bend m e ≡ pos 0) (λ e. bend m e ≡ pos 0 → ⊥) r) ⌝ }
@@ -31,7 +31,7 @@ pub fn flat_faces(points: &[Point], starts: &[usize], next: &[usize]) -> Result<
 }
 
 /// At each edge two faces meet at an angle; else the lowest edge at which they are level is refused.
-pub fn no_level_faces(
+pub(crate) fn no_level_faces(
     points: &[Point],
     starts: &[usize],
     next: &[usize],

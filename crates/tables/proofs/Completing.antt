@@ -18,7 +18,7 @@ use Rattle.drawing.specs.Lists.{at, _∈_, Distinct, flat, rotated}
 use Rattle.drawing.specs.Lowest.{Lowest}
 use Rattle.drawing.specs.Chains.{nextIndex, Follows, Chain, EachChain, Rounds, AtHome, Linked}
 use Rattle.drawing.specs.Verdicts.{Followed, Missed, ChainFails}
-use Rattle.drawing.proofs.Members.{in-left, in-right, all-in, all-from-in}
+use Rattle.drawing.proofs.Members.{in-left, in-right, in-cases, all-in, all-from-in}
 use Rattle.drawing.proofs.Following.{each-push, each-split, each-once, each-within, flat-push}
 use Rattle.tables.specs.declared.chains.Walk.{Walk}
 use Rattle.tables.specs.Walks.{listed, Steady, Taken, WalkedAll, MetAll, NotMet, Complete, nextOf}
@@ -36,6 +36,18 @@ homes-kept home after (ks ∷ rounds) same h =
     one : (js : List ℕ) → ((k : ℕ) → k ∈ js → at after k ≡ at home k) → AtHome home js → AtHome after js
     one [] same h = tt
     one (k ∷ js) same h = all-from-in (λ j. at after j ≡ k) (k ∷ js) (λ j m. same j m ∙ all-in (λ j. at home j ≡ k) (k ∷ js) h j m)
+
+-- the home of a chain's corner is in the chain
+pub home-in : (home : List ℕ) (rounds : List (List ℕ)) → All (AtHome home) rounds → (k : ℕ) → k ∈ flat rounds → at home k ∈ flat rounds
+home-in home [] h k m = m
+home-in home (ks ∷ rounds) h k m =
+    elim (in-cases k ks (flat rounds) m) [
+      | inl a ↦ in-left (at home k) ks (flat rounds) (one ks (h .0) a)
+      | inr b ↦ in-right (at home k) ks (flat rounds) (home-in home rounds (h .1) k b) ]
+  where
+    one : (js : List ℕ) → AtHome home js → k ∈ js → at home k ∈ js
+    one [] a m = absurd m
+    one (j ∷ js) a m = inl (all-in (λ i. at home i ≡ j) (j ∷ js) a k m)
 
 new-home : (cs : List Corner) (first : ℕ) (home ks : List ℕ) → Follows cs first ks 0 → ((k : ℕ) → k ∈ ks → at home k ≡ first - 1) → AtHome home ks
 new-home cs first home [] f h = tt

@@ -13,3 +13,4 @@ mod Joining
 mod Meshing
 mod Counting
 mod Wholly
+pub mod Passed

@@ -5,18 +5,19 @@ use Prim.Native.Nat.{ℕ, _<_, _≤_}
 use native.Mathlib.Omega.{arith}
 use lib.ListN.{length, getD, take}
 use Rattle.std.specs.shelf.Lists.{All}
-use Rattle.std.proofs.shelf.Lists.{getD-take, length-map}
+use Rattle.std.proofs.shelf.Lists.{getD-take, length-map, length-take-le}
 use Rattle.solid.specs.Points.{Near}
-use Rattle.drawing.specs.Lists.{at, flat}
+use Rattle.drawing.specs.Lists.{at, _∈_, flat}
 use Rattle.drawing.specs.Chains.{Linked, AtHome}
 use Rattle.drawing.specs.Nets.{noPoint, startsOf}
 use Rattle.drawing.specs.Verdicts.{Tables, Counts}
+use Rattle.drawing.proofs.Members.{in-at}
 use Rattle.drawing.proofs.Following.{each-once, each-within}
 use Rattle.tables.specs.declared.chains.Walk.{Walk}
 use Rattle.tables.specs.Walks.{Complete, nextOf}
 use Rattle.tables.specs.Stages.{Pointed, Opposed}
 use Rattle.tables.specs.Wirings.{netWith, used, Wired}
-use Rattle.tables.proofs.Completing.{linked, homes-kept}
+use Rattle.tables.proofs.Completing.{linked, homes-kept, home-in, covers}
 use Rattle.tables.proofs.Counting.{met-is}
 use Rattle.tables.proofs.Joining.{mesh-from}
 use Rattle.tables.proofs.Meshing.{seamed, draws}
@@ -41,6 +42,28 @@ module _ (t : Tables) (counts : Counts (length (t .points)) (length (t .corners)
         subst (λ (r : List (List ℕ)). All (AtHome (used t (w .home))) r) (sym same)
         (homes-kept (w .home) (used t (w .home)) (a .rounds)
           (λ k m. getD-take (length (t .corners)) (w .home) k 0 (each-within (t .corners) (t .faces) (a .rounds) k (a .drawn .chains) m)) (a .homes))
+
+  few : length (t .corners) ≤ 480
+  few = counts .corners-to
+
+  order-long : length (used t (w .order)) ≡ length (t .corners)
+  order-long = length-take-le (length (t .corners)) (w .order) (omega (arith, complete .walked .steady .order-size, few))
+
+  home-long : length (used t (w .home)) ≡ length (t .corners)
+  home-long = length-take-le (length (t .corners)) (w .home) (omega (arith, complete .walked .steady .home-size, few))
+
+  in-rounds : (k : ℕ) → k ∈ flat (complete .walked .rounds) → k < length (t .corners)
+  in-rounds k m = each-within (t .corners) (t .faces) (complete .walked .rounds) k (complete .walked .drawn .chains) m
+
+  order-inside : (k : ℕ) → k < length (t .corners) → at (used t (w .order)) k < length (t .corners)
+  order-inside k h =
+      in-rounds (at (used t (w .order)) k)
+      (subst (λ (xs : List ℕ). at (used t (w .order)) k ∈ xs) (order-all (complete .walked .rounds) refl) (in-at (used t (w .order)) k (omega (arith, order-long))))
+
+  home-inside : (k : ℕ) → k < length (t .corners) → at (used t (w .home)) k < length (t .corners)
+  home-inside k h =
+      in-rounds _ (home-in (used t (w .home)) (complete .walked .rounds) (homes-all (complete .walked .rounds) refl) k
+        (covers (t .corners) (t .faces) w (complete .walked) few (complete .met-all) k h))
 
   module _ (p : Pointed (t .points) (t .corners)) (starts : List ℕ) (starts-are : used t starts ≡ startsOf (t .corners))
            (opposite : List ℕ) (o : Opposed (length (t .points)) (startsOf (t .corners)) (used t next) opposite) where
@@ -67,5 +90,9 @@ module _ (t : Tables) (counts : Counts (length (t .points)) (length (t .corners)
           whole = closed .whole;
           reached = λ e h. closed .reached e (omega (arith, count));
           order-is = order-all (d .linked .rounds) same;
+          order-size = order-long;
+          order-within = order-inside;
+          home-size = home-long;
+          home-within = home-inside;
           homes = homes-all (d .linked .rounds) same;
         }

@@ -36,4 +36,8 @@ pub record Wired (t : Tables) (w : Wiring) : Type 0 where
   pub whole : (q : ℕ) → q < length (t .points) → Whole (netOf t w) q
   pub reached : (e : ℕ) → e < length (t .corners) → Reached (netOf t w) e
   pub order-is : used t (w .order) ≡ flat (draws .linked .rounds)
+  pub order-size : length (used t (w .order)) ≡ length (t .corners)
+  pub order-within : (k : ℕ) → k < length (t .corners) → at (used t (w .order)) k < length (t .corners)
+  pub home-size : length (used t (w .home)) ≡ length (t .corners)
+  pub home-within : (k : ℕ) → k < length (t .corners) → at (used t (w .home)) k < length (t .corners)
   pub homes : All (AtHome (used t (w .home))) (draws .linked .rounds)

@@ -1,0 +1,2 @@
+//! The checked block: a drawing that passed all twelve checks.
+pub mod block;
