@@ -15,6 +15,7 @@ use Rattle.drawing.specs.Lists.{at}
 use Rattle.drawing.specs.Chains.{noCorner}
 use Rattle.drawing.specs.Nets.{Net, noPoint, startsOf, marksOf, edges, start, end, pointAt}
 use Rattle.drawing.specs.Verdicts.{Tables, Repeated, Draws, Sound, Refused}
+use Rattle.drawing.proofs.Linking.{next-onto}
 use Rattle.drawing.proofs.Passing.{passes-flat, passes-level, passes-volume}
 use Rattle.drawing.proofs.Judgement.{Below, below-more, sound-below, refused-below, refused-once, sound-not-refused}
 use Rattle.tables.specs.declared.wiring.Wiring.{Wiring}
@@ -26,7 +27,7 @@ use Rattle.shape.specs.Shapes.{Shaped, ShapeRefused, bent, level, hollow}
 use Rattle.std.specs.declared.option.Option.{Option}
 use Rattle.std.specs.declared.option.Option.the-variants.{Some, None}
 use Rattle.block.specs.Checked as spec
-use Rattle.block.specs.Checked.{Checked, Leaves, netFrom}
+use Rattle.block.specs.Checked.{Checked, Leaves, Previous, netFrom}
 use Rattle.block.specs.Views.{Verdict}
 
 module _ (t : Tables) (w : Wiring) (h : Wired t w) where
@@ -82,7 +83,9 @@ module _ (t : Tables) (w : Wiring) (h : Wired t w) where
           | inl same ↦ same
           | inr d ↦ elim d [
             | inl lt ↦ absurd (h .distinct q lq (record { earlier = p; before = lt; same = e }))
-            | inr gt ↦ absurd (h .distinct p lp (record { earlier = q; before = gt; same = sym e })) ] ]
+            | inr gt ↦ absurd (h .distinct p lp (record { earlier = q; before = gt; same = sym e }))
+          ]
+        ]
 
     leaves : (q : ℕ) → q < length (t .points) → Leaves m q
     leaves q lq =
@@ -92,6 +95,11 @@ module _ (t : Tables) (w : Wiring) (h : Wired t w) where
           within = omega (arith, edges-are t w h, u .within);
           from = getD-map (λ c. c .point - 1) (t .corners) (u .corner) noCorner 0 (u .within) ∙ omega (arith, u .names);
         }
+
+    before : (f : ℕ) → f < edges m → Previous m f
+    before f lt =
+        let b = next-onto (t .corners) (t .faces) (used t (w .next)) (h .draws .linked) f (omega (arith, edges-are t w h)) in
+        record { edge = b .0; within = omega (arith, edges-are t w h, b .1); leads = b .2 }
 
     of-net : Checked m
     of-net = record {
@@ -103,10 +111,12 @@ module _ (t : Tables) (w : Wiring) (h : Wired t w) where
       near = h .near;
       points-once = once;
       mesh = h .mesh;
+      previous = before;
+      opposite-apart = λ e lt same. all-matched t w h e lt .apart (ap (start m) (sym same) ∙ h .mesh .opposite-start e lt);
       ends-apart = λ e lt. all-matched t w h e lt .apart;
       ends-once = λ e f le lf from to.
-        all-matched t w h f lf .there .only e le (record { from = from; to = to })
-        ∙ sym (all-matched t w h f lf .there .only f lf (record { from = refl; to = refl }));
+          all-matched t w h f lf .there .only e le (record { from = from; to = to })
+          ∙ sym (all-matched t w h f lf .there .only f lf (record { from = refl; to = refl }));
       leaving = leaves;
       whole = h .whole;
       reached = λ e lt. h .reached e (omega (arith, edges-are t w h));
@@ -124,7 +134,7 @@ module _ (t : Tables) (w : Wiring) (h : Wired t w) where
 -- The tables of a block, filled.
 module _ (ps : List Point) (cs : List Corner) (w : Wiring) where
   pub assembled : (points : List Point) (marks : List ℕ) → take (length ps) points ≡ ps → take (length cs) marks ≡ marksOf cs
-    → spec.netOf points (length ps) (w .starts) marks (w .next) (w .opposite) (length cs) ≡ netFrom ps cs w
+      → spec.netOf points (length ps) (w .starts) marks (w .next) (w .opposite) (length cs) ≡ netFrom ps cs w
   assembled points marks p m = λ i. record {
     points = p i;
     starts = take (length cs) (w .starts);

@@ -9,7 +9,7 @@ use Rattle.solid.specs.declared.Point.{Point}
 use Rattle.solid.specs.Points.{Near}
 use Rattle.drawing.specs.declared.record.Corner.{Corner}
 use Rattle.tables.specs.declared.wiring.Wiring.{Wiring}
-use Rattle.drawing.specs.Nets.{Net, marksOf, Mesh, edges, start, end, pointAt, Whole, Reached, bend, fold}
+use Rattle.drawing.specs.Nets.{Net, marksOf, Mesh, edges, start, end, next, opposite, pointAt, Whole, Reached, bend, fold}
 
 -- the net of tables of which the first places are used
 abbrev pub netOf : List Point → ℕ → (starts marks next opposite : List ℕ) → ℕ → Net
@@ -22,6 +22,12 @@ pub record Leaves (m : Net) (q : ℕ) : Type 0 where
   pub within : edge < edges m
   pub from : start m edge ≡ q
 
+-- The edge f is the next edge of some edge.
+pub record Previous (m : Net) (f : ℕ) : Type 0 where
+  pub edge : ℕ
+  pub within : edge < edges m
+  pub leads : next m edge ≡ f
+
 pub record Checked (m : Net) : Type 0 where
   -- the counts and coordinates are in their ranges
   pub points-from : 4 ≤ length (m .points)
@@ -32,8 +38,10 @@ pub record Checked (m : Net) : Type 0 where
   pub near : (q : ℕ) → q < length (m .points) → Near (pointAt m q)
   -- points are distinct
   pub points-once : (p q : ℕ) → p < length (m .points) → q < length (m .points) → pointAt m p ≡ pointAt m q → p ≡ q
-  -- next is a permutation, and opposite an involution that turns edges round
+  -- next is a permutation, and opposite an involution that turns edges round and fixes none
   pub mesh : Mesh (length (m .points)) m
+  pub previous : (f : ℕ) → f < edges m → Previous m f
+  pub opposite-apart : (e : ℕ) → e < edges m → opposite m e ≢ e
   -- the ends of an edge differ, and an ordered pair of ends has one edge
   pub ends-apart : (e : ℕ) → e < edges m → start m e ≢ end m e
   pub ends-once : (e f : ℕ) → e < edges m → f < edges m → start m e ≡ start m f → end m e ≡ end m f → e ≡ f

@@ -7,7 +7,7 @@ use Rattle.std.specs.declared.result.Result.the-variants.{Ok, Err}
 use Rattle.drawing.specs.declared.fault.Fault.{Fault}
 use Rattle.drawing.specs.Nets.{Net}
 use Rattle.drawing.specs.Verdicts.{Tables, Sound, Refused}
-use Rattle.block.specs.declared.block.Block.{Block}
+use Rattle.block.specs.declared.body.Block.{Block}
 use Rattle.block.specs.Checked.{netOf}
 
 -- the points and edges of a block

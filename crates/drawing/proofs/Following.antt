@@ -106,5 +106,5 @@ pub rounds-take : (cs : List Corner) (fs : List Face) (rounds : List (List ℕ))
 rounds-take cs fs rounds m r = record {
   chains = each-take cs m fs rounds (r .chains);
   apart = distinct-left (flat (take m rounds)) (flat (drop m rounds))
-    (rw (sym (flat-append (take m rounds) (drop m rounds)), take-append-drop m rounds) (r .apart));
+      (rw (sym (flat-append (take m rounds) (drop m rounds)), take-append-drop m rounds) (r .apart));
 }

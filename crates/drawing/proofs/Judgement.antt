@@ -70,7 +70,8 @@ module _ (t : Tables) where
   below-more c b h d lt =
       elim (cases-eq (number d) (number c)) [
         | inl e ↦ subst (λ (x : Cause). Passes t x) (sym (number-once d c e)) h
-        | inr ne ↦ b d (omega arith) ]
+        | inr ne ↦ b d (omega arith)
+      ]
 
   pub sound-below : Below t 13 → Sound t
   sound-below b c = b c (number-range c .1)
@@ -123,12 +124,14 @@ module _ (t : Tables) where
   refused-once f g a b =
       elim (cases-order (number (f .cause)) (number (g .cause))) [
         | inl e ↦
-          let same = number-once (f .cause) (g .cause) e in
-          let place = fails-once (f .cause) (a .earlier) (f .place) (g .place) (a .fails) (subst (λ (x : Cause). Fails t x (g .place)) (sym same) (b .fails)) in
-          λ i. record { cause = same i; place = place i }
+            let same = number-once (f .cause) (g .cause) e in
+            let place = fails-once (f .cause) (a .earlier) (f .place) (g .place) (a .fails) (subst (λ (x : Cause). Fails t x (g .place)) (sym same) (b .fails)) in
+            λ i. record { cause = same i; place = place i }
         | inr h ↦ elim h [
           | inl lt ↦ absurd (b .earlier (f .cause) lt (f .place) (a .fails))
-          | inr gt ↦ absurd (a .earlier (g .cause) gt (g .place) (b .fails)) ] ]
+          | inr gt ↦ absurd (a .earlier (g .cause) gt (g .place) (b .fails))
+        ]
+      ]
 
   pub sound-not-refused : (f : Fault) → Sound t → Refused t f → ⊥
   sound-not-refused f s r = s (f .cause) (f .place) (r .fails)

@@ -14,7 +14,7 @@ use Rattle.drawing.specs.Lists.{at, _∈_, Distinct, flat, rotated}
 use Rattle.drawing.specs.Chains.{Rounds, Linked}
 use Rattle.drawing.specs.Nets.{Net, Runs, Matched, startsOf, edges, start, end}
 use Rattle.drawing.specs.Verdicts.{Tables, Draws}
-use Rattle.drawing.proofs.Members.{in-left, in-right, in-cases, in-map, in-rotated, rotated-distinct, distinct-left, distinct-right, distinct-apart, map-once}
+use Rattle.drawing.proofs.Members.{in-left, in-right, in-cases, in-map, from-map, in-rotated, in-rotated-back, rotated-distinct, distinct-left, distinct-right, distinct-apart, map-once}
 use Rattle.drawing.proofs.Following.{each-once, each-within}
 
 -- two lists of next edges that go round the same chains agree on their corners
@@ -43,10 +43,27 @@ module _ (cs : List Corner) (fs : List Face) where
     stays (ks ∷ rounds) a k h =
         elim (in-cases k ks (flat rounds) h) [
           | inl m ↦ in-left (at next k) ks (flat rounds) (in-rotated (at next k) ks (rw (a .0) at (in-map (at next) k ks m)))
-          | inr m ↦ in-right (at next k) ks (flat rounds) (stays rounds (a .1) k m) ]
+          | inr m ↦ in-right (at next k) ks (flat rounds) (stays rounds (a .1) k m)
+        ]
 
     pub next-within : (k : ℕ) → k < length cs → at next k < length cs
     next-within k lt = each-within cs fs (l .rounds) (at next k) (l .drawn .chains) (stays (l .rounds) (l .goes-round) k (l .covers k lt))
+
+    before : (rounds : List (List ℕ)) → All (λ ks. map (at next) ks ≡ rotated ks) rounds → (k : ℕ) → k ∈ flat rounds → (j : ℕ) × (j ∈ flat rounds) × (at next j ≡ k)
+    before [] a k h = absurd h
+    before (ks ∷ rounds) a k h =
+        elim (in-cases k ks (flat rounds) h) [
+          | inl m ↦
+              let b = from-map (at next) k ks (rw (sym (a .0)) at (in-rotated-back k ks m)) in
+              (b .0, in-left (b .0) ks (flat rounds) (b .1), b .2)
+          | inr m ↦ let b = before rounds (a .1) k m in (b .0, in-right (b .0) ks (flat rounds) (b .1), b .2)
+        ]
+
+    -- each edge is the next of some edge
+    pub next-onto : (k : ℕ) → k < length cs → (j : ℕ) × (j < length cs) × (at next j ≡ k)
+    next-onto k lt =
+        let b = before (l .rounds) (l .goes-round) k (l .covers k lt) in
+        (b .0, each-within cs fs (l .rounds) (b .0) (l .drawn .chains) (b .1), b .2)
 
     once : (rounds : List (List ℕ)) → Distinct (flat rounds) → All (λ ks. map (at next) ks ≡ rotated ks) rounds → (j k : ℕ) → j ∈ flat rounds → k ∈ flat rounds → at next j ≡ at next k → j ≡ k
     once [] d a j k h i e = absurd h
@@ -54,10 +71,13 @@ module _ (cs : List Corner) (fs : List Face) where
         elim (in-cases j ks (flat rounds) h) [
           | inl m ↦ elim (in-cases k ks (flat rounds) i) [
             | inl n ↦ map-once (at next) ks (rw (sym (a .0)) at (rotated-distinct ks (distinct-left ks (flat rounds) d))) j k m n e
-            | inr n ↦ absurd (distinct-apart (at next j) ks (flat rounds) d (inside j m) (rw (sym e) at (stays rounds (a .1) k n))) ]
+            | inr n ↦ absurd (distinct-apart (at next j) ks (flat rounds) d (inside j m) (rw (sym e) at (stays rounds (a .1) k n)))
+          ]
           | inr m ↦ elim (in-cases k ks (flat rounds) i) [
             | inl n ↦ absurd (distinct-apart (at next k) ks (flat rounds) d (inside k n) (rw e at (stays rounds (a .1) j m)))
-            | inr n ↦ once rounds (distinct-right ks (flat rounds) d) (a .1) j k m n e ] ]
+            | inr n ↦ once rounds (distinct-right ks (flat rounds) d) (a .1) j k m n e
+          ]
+        ]
       where
         inside : (x : ℕ) → x ∈ ks → at next x ∈ ks
         inside x m = in-rotated (at next x) ks (rw (a .0) at (in-map (at next) x ks m))
@@ -67,11 +87,12 @@ module _ (cs : List Corner) (fs : List Face) where
 
 -- the opposite of an edge that is not unmatched
 opposite-once : (starts next : List ℕ) (e f g : ℕ) → ((Matched starts next e → ⊥) → ⊥) → f < length starts → g < length starts
-  → Runs starts next (at starts (at next e)) (at starts e) f → Runs starts next (at starts (at next e)) (at starts e) g → f ≡ g
+    → Runs starts next (at starts (at next e)) (at starts e) f → Runs starts next (at starts (at next e)) (at starts e) g → f ≡ g
 opposite-once starts next e f g matched lf lg rf rg =
     elim (cases-eq f g) [
       | inl same ↦ same
-      | inr ne ↦ absurd (matched (λ m. ne (m .back .only f lf rf ∙ sym (m .back .only g lg rg)))) ]
+      | inr ne ↦ absurd (matched (λ m. ne (m .back .only f lf rf ∙ sym (m .back .only g lg rg))))
+    ]
 
 pub edge-count : (t : Tables) (m : Net) → Draws t m → edges m ≡ length (t .corners)
 edge-count t m a = ap length (a .starts-are) ∙ length-map (t .corners) (λ c. c .point - 1)
@@ -86,13 +107,13 @@ draws-once t m n a b matched =
     let ours = edge-count t m a in
     let theirs = edge-count t n b in
     let opposite-same : n .opposite ≡ m .opposite =
-        ext-getD 0 (n .opposite) (m .opposite) (b .opposite-size ∙ sym (a .opposite-size))
-        (λ e lt.
-          let le : e < edges m = omega (arith, b .opposite-size) in
-          let ln : e < edges n = omega (arith, b .opposite-size) in
-          let runs : Runs (m .starts) (m .next) (end m e) (start m e) (at (n .opposite) e) =
-              subst (λ (x : List ℕ). Runs (m .starts) x (at (m .starts) (at x e)) (at (m .starts) e) (at (n .opposite) e)) next-same
-              (subst (λ (s : List ℕ). Runs s (n .next) (at s (at (n .next) e)) (at s e) (at (n .opposite) e)) starts-same (b .opposite-runs e ln)) in
-          opposite-once (m .starts) (m .next) e (at (n .opposite) e) (at (m .opposite) e) (matched e le)
-            (omega (arith, b .opposite-within e ln)) (a .opposite-within e le) runs (a .opposite-runs e le)) in
+    ext-getD 0 (n .opposite) (m .opposite) (b .opposite-size ∙ sym (a .opposite-size))
+    (λ e lt.
+    let le : e < edges m = omega (arith, b .opposite-size) in
+    let ln : e < edges n = omega (arith, b .opposite-size) in
+    let runs : Runs (m .starts) (m .next) (end m e) (start m e) (at (n .opposite) e) =
+    subst (λ (x : List ℕ). Runs (m .starts) x (at (m .starts) (at x e)) (at (m .starts) e) (at (n .opposite) e)) next-same
+    (subst (λ (s : List ℕ). Runs s (n .next) (at s (at (n .next) e)) (at s e) (at (n .opposite) e)) starts-same (b .opposite-runs e ln)) in
+    opposite-once (m .starts) (m .next) e (at (n .opposite) e) (at (m .opposite) e) (matched e le)
+    (omega (arith, b .opposite-within e ln)) (a .opposite-within e le) runs (a .opposite-runs e le)) in
     λ i. record { points = points-same i; starts = starts-same i; marks = marks-same i; next = next-same i; opposite = opposite-same i }

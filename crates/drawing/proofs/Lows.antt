@@ -13,7 +13,9 @@ lowest-once n P p q a b =
       | inl e ↦ a .place-is ∙ (rw e (sym (b .place-is)))
       | inr h ↦ elim h [
         | inl lt ↦ absurd (b .below (a .index) lt (a .holds))
-        | inr gt ↦ absurd (a .below (b .index) gt (b .holds)) ] ]
+        | inr gt ↦ absurd (a .below (b .index) gt (b .holds))
+      ]
+    ]
 
 -- where there is none, it holds of no record
 pub none-lowest : (n : ℕ) (P : ℕ → Type 0) → ((p : ℕ) → Lowest n P p → ⊥) → (k : ℕ) → k < n → P k → ⊥
@@ -24,7 +26,8 @@ none-lowest n P out k lt = upto n (omega arith) k lt
     upto (suc m) le k lt p =
         elim (cases-eq k m) [
           | inl e ↦ out (m + 1) (record { index = m; place-is = refl; within = omega arith; holds = rw (sym e) p; below = upto m (omega arith) })
-          | inr ne ↦ upto m (omega arith) k (omega arith) p ]
+          | inr ne ↦ upto m (omega arith) k (omega arith) p
+        ]
 
 -- where it holds of none, there is no lowest
 pub no-lowest : (n : ℕ) (P : ℕ → Type 0) → ((k : ℕ) → k < n → P k → ⊥) → (p : ℕ) → Lowest n P p → ⊥

@@ -28,9 +28,10 @@ in-one x y (inr h) = absurd h
 
 pub distinct-push : (xs : List ℕ) (x : ℕ) → Distinct xs → (x ∈ xs → ⊥) → Distinct (xs ++ (x ∷ []))
 distinct-push [] x d n = (λ h. h, tt)
-distinct-push (y ∷ xs) x d n =
-    ( (λ h. elim (in-cases y xs (x ∷ []) h) [ inl a ↦ d .0 a | inr b ↦ n (inl (sym (in-one y x b))) ])
-    , distinct-push xs x (d .1) (λ h. n (inr h)) )
+distinct-push (y ∷ xs) x d n = (
+  (λ h. elim (in-cases y xs (x ∷ []) h) [ inl a ↦ d .0 a | inr b ↦ n (inl (sym (in-one y x b))) ]),
+  distinct-push xs x (d .1) (λ h. n (inr h)),
+)
 
 pub distinct-left : (xs ys : List ℕ) → Distinct (xs ++ ys) → Distinct xs
 distinct-left [] ys d = tt
@@ -50,6 +51,11 @@ pub in-rotated : (x : ℕ) (xs : List ℕ) → x ∈ rotated xs → x ∈ xs
 in-rotated x [] h = h
 in-rotated x (y ∷ xs) h = elim (in-cases x xs (y ∷ []) h) [ inl a ↦ inr a | inr b ↦ inl (in-one x y b) ]
 
+pub in-rotated-back : (x : ℕ) (xs : List ℕ) → x ∈ xs → x ∈ rotated xs
+in-rotated-back x [] h = h
+in-rotated-back x (y ∷ xs) (inl e) = in-right x xs (y ∷ []) (inl e)
+in-rotated-back x (y ∷ xs) (inr h) = in-left x xs (y ∷ []) h
+
 pub rotated-distinct : (xs : List ℕ) → Distinct xs → Distinct (rotated xs)
 rotated-distinct [] d = tt
 rotated-distinct (x ∷ xs) d = distinct-push xs x (d .1) (d .0)
@@ -58,6 +64,12 @@ pub in-map : (f : ℕ → ℕ) (x : ℕ) (xs : List ℕ) → x ∈ xs → f x �
 in-map f x [] h = h
 in-map f x (y ∷ xs) (inl e) = inl (rw e refl)
 in-map f x (y ∷ xs) (inr h) = inr (in-map f x xs h)
+
+-- an image comes from an element
+pub from-map : (f : ℕ → ℕ) (y : ℕ) (xs : List ℕ) → y ∈ map f xs → (x : ℕ) × (x ∈ xs) × (f x ≡ y)
+from-map f y [] h = absurd h
+from-map f y (x ∷ xs) (inl e) = (x, inl refl, sym e)
+from-map f y (x ∷ xs) (inr h) = let b = from-map f y xs h in (b .0, inr (b .1), b .2)
 
 -- where no image stands twice, an image comes from one element
 pub map-once : (f : ℕ → ℕ) (xs : List ℕ) → Distinct (map f xs) → (x y : ℕ) → x ∈ xs → y ∈ xs → f x ≡ f y → x ≡ y

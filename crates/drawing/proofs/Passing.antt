@@ -73,7 +73,7 @@ module _ (t : Tables) where
     passes-volume h p f =
         other-net _
         (λ g.
-          let same = each-once (t .corners) (t .faces) (d .linked .rounds) (g .0 .rounds) (d .linked .drawn .chains) (g .0 .drawn .chains) in
-          let low = rw same at (g .1) in
-          omega (arith, ints))
+        let same = each-once (t .corners) (t .faces) (d .linked .rounds) (g .0 .rounds) (d .linked .drawn .chains) (g .0 .drawn .chains) in
+        let low = rw same at (g .1) in
+        omega (arith, ints))
         (f .1)

@@ -43,7 +43,8 @@ home-in home [] h k m = m
 home-in home (ks ∷ rounds) h k m =
     elim (in-cases k ks (flat rounds) m) [
       | inl a ↦ in-left (at home k) ks (flat rounds) (one ks (h .0) a)
-      | inr b ↦ in-right (at home k) ks (flat rounds) (home-in home rounds (h .1) k b) ]
+      | inr b ↦ in-right (at home k) ks (flat rounds) (home-in home rounds (h .1) k b)
+    ]
   where
     one : (js : List ℕ) → AtHome home js → k ∈ js → at home k ∈ js
     one [] a m = absurd m
@@ -68,8 +69,8 @@ module _ (cs : List Corner) where
         drawn = record { chains = each-push cs fs (a .rounds) f (t .corners) (a .drawn .chains) (t .chain); apart = rw list at (o .steady .apart) };
         listed-is = list;
         homes = all-push (AtHome (after .home)) (a .rounds) (t .corners)
-          (homes-kept (w .home) (after .home) (a .rounds) (λ k m. o .kept k (rw (a .listed-is) m)) (a .homes))
-          (new-home cs (f .first) (after .home) (t .corners) (t .chain .follows) (o .homes));
+            (homes-kept (w .home) (after .home) (a .rounds) (λ k m. o .kept k (rw (a .listed-is) m)) (a .homes))
+            (new-home cs (f .first) (after .home) (t .corners) (t .chain .follows) (o .homes));
         steady = o .steady;
       }
 
@@ -101,13 +102,16 @@ module _ (cs : List Corner) where
 
     pub missed : (f : Fault) → NotMet (length cs) w f → ChainFails cs fs (f .place)
     missed f n =
-        inr (n .place-is, record {
-          rounds = a .rounds;
-          drawn = a .drawn;
-          corner = n .corner;
-          within = n .within;
-          missing = λ m. a .steady .fresh (n .corner) (omega (arith, n .within)) (n .unseen) (rw (sym (a .listed-is)) at m);
-        })
+        inr (
+          n .place-is,
+          record {
+            rounds = a .rounds;
+            drawn = a .drawn;
+            corner = n .corner;
+            within = n .within;
+            missing = λ m. a .steady .fresh (n .corner) (omega (arith, n .within)) (n .unseen) (rw (sym (a .listed-is)) at m);
+          },
+        )
 
   -- the next edges go round a chain
   module _ (home next : List ℕ) (h : ℕ) where
@@ -141,5 +145,5 @@ module _ (cs : List Corner) where
         covers = cover;
         size = length-take-le n next (omega arith);
         goes-round = rounds-turn (w .home) (take n next) fs (a .rounds) (a .drawn .chains) (a .homes)
-          (λ k m. let lt = each-within cs fs (a .rounds) k (a .drawn .chains) m in getD-take n next k 0 lt ∙ is k lt);
+            (λ k m. let lt = each-within cs fs (a .rounds) k (a .drawn .chains) m in getD-take n next k 0 lt ∙ is k lt);
       }

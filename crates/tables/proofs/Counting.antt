@@ -36,9 +36,10 @@ met-is cs fs w few all =
     let a = all .walked in
     let s = a .steady in
     let count = unmet-beyond (w .home) (length cs) (omega (arith, s .home-size)) (all .met-all)
-        (λ k le lt. elim (cases-eq (at (w .home) k) 480) [
-          | inl e ↦ e
-          | inr ne ↦
-            let inside = each-within cs fs (a .rounds) k (a .drawn .chains) (rw (a .listed-is) at (s .seen k (omega (arith, s .home-size)) ne)) in
-            absurd (omega arith) ]) in
+    (λ k le lt. elim (cases-eq (at (w .home) k) 480) [
+      | inl e ↦ e
+      | inr ne ↦
+          let inside = each-within cs fs (a .rounds) k (a .drawn .chains) (rw (a .listed-is) at (s .seen k (omega (arith, s .home-size)) ne)) in
+          absurd (omega arith)
+    ]) in
     omega (arith, s .room, s .home-size)

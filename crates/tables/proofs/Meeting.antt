@@ -53,12 +53,15 @@ module _ (w : Walk) (k h : ℕ) (s : Steady w) (lt : k < 480) (small : h < 480) 
       home-size = length-set (w .home) k h ∙ s .home-size;
       seen = λ j jlt n. elim (cases-eq j k) [
         | inl e ↦ rw list-is (in-right j (listed w) (k ∷ []) (inl e))
-        | inr ne ↦ rw list-is (in-left j (listed w) (k ∷ []) (s .seen j jlt (λ e. n (home-other j ne ∙ e)))) ];
+        | inr ne ↦ rw list-is (in-left j (listed w) (k ∷ []) (s .seen j jlt (λ e. n (home-other j ne ∙ e))))
+      ];
       fresh = λ j jlt e m. elim (cases-eq j k) [
         | inl same ↦ let q : h ≡ 480 = sym home-at ∙ rw same at e in omega arith
         | inr ne ↦ elim (in-cases j (listed w) (k ∷ []) (rw list-is at m)) [
           | inl a ↦ s .fresh j jlt (sym (home-other j ne) ∙ e) a
-          | inr b ↦ ne (in-one j k b) ] ];
+          | inr b ↦ ne (in-one j k b)
+        ]
+      ];
       apart = rw list-is (distinct-push (listed w) k (s .apart) (s .fresh k lt free));
       room = omega (arith, fewer, s .room);
     };

@@ -48,7 +48,8 @@ module _ (cs : List Corner) (first : ℕ) where
             steady = m .steady;
             homes = λ j h. elim (in-cases j (g .passed) (k ∷ []) h) [
               | inl a ↦ m .kept j (ne j (rw (o .listed-is) (in-right j (listed before) (g .passed) a))) ∙ o .homes j a
-              | inr b ↦ rw (in-one j k b) (m .homed) ];
+              | inr b ↦ rw (in-one j k b) (m .homed)
+            ];
             kept = λ j h. m .kept j (ne j (rw (o .listed-is) (in-left j (listed before) (g .passed) h))) ∙ o .kept j h;
           };
           begun = λ h. g .begun (omega arith);
@@ -105,4 +106,5 @@ module _ (cs : List Corner) (first : ℕ) where
       let long = w .met - before .met in
       elim (cases-bool (leb 3 long)) [
         | inl e ↦ rw e (taken before w g0 (leb-true 3 long e))
-        | inr e ↦ rw e (λ ks c d. too-short before w g0 (leb-false 3 long e) ks c) ]
+        | inr e ↦ rw e (λ ks c d. too-short before w g0 (leb-false 3 long e) ks c)
+      ]

@@ -46,13 +46,14 @@ module _ (n : ℕ) (P : ℕ → Type 0) (v : ℕ) (t : Tally n P v) where
     one = λ a b. absurd (omega arith);
     only = λ a b. absurd (omega arith);
     many = λ a k f.
-      let last = f n (omega arith) p in
-      elim (cases-lt v 481) [
-        | inl lt ↦
-          let pos : 0 < v = omega arith in
-          let first = f (v - 1) (omega (arith, t .within pos lt)) (t .one pos lt) in
-          omega (arith, t .within pos lt)
-        | inr ge ↦ t .many ge k (λ e lt q. f e (omega arith) q) ];
+        let last = f n (omega arith) p in
+        elim (cases-lt v 481) [
+          | inl lt ↦
+              let pos : 0 < v = omega arith in
+              let first = f (v - 1) (omega (arith, t .within pos lt)) (t .one pos lt) in
+              omega (arith, t .within pos lt)
+          | inr ge ↦ t .many ge k (λ e lt q. f e (omega arith) q)
+        ];
   }
 
 module _ (starts next : List ℕ) where
@@ -60,18 +61,18 @@ module _ (starts next : List ℕ) where
   tallied-none = record {
     size = length-replicate {A = ℕ} 25600 0;
     each = λ a b la lb.
-      let z : at (replicate 25600 0) (a * 160 + b) ≡ 0 = getD-replicate {A = ℕ} 25600 (a * 160 + b) 0 0 (omega arith) in
-      record {
-        none = λ q e lt p. omega arith;
-        within = λ l. absurd (omega arith);
-        one = λ l. absurd (omega arith);
-        only = λ l. absurd (omega arith);
-        many = λ l. absurd (omega arith);
-      };
+        let z : at (replicate 25600 0) (a * 160 + b) ≡ 0 = getD-replicate {A = ℕ} 25600 (a * 160 + b) 0 0 (omega arith) in
+        record {
+          none = λ q e lt p. omega arith;
+          within = λ l. absurd (omega arith);
+          one = λ l. absurd (omega arith);
+          only = λ l. absurd (omega arith);
+          many = λ l. absurd (omega arith);
+        };
   }
 
   module _ (n : ℕ) (table : List ℕ) (t : Tallied starts next n table) (few : n < 480)
-           (la : at starts n < 160) (lb : at starts (at next n) < 160) where
+      (la : at starts n < 160) (lb : at starts (at next n) < 160) where
     abbrev pair : ℕ
     pair = at starts n * 160 + at starts (at next n)
 
@@ -86,15 +87,17 @@ module _ (starts next : List ℕ) where
       size = length-set table pair w ∙ t .size;
       each = λ a b ka kb. elim (cases-eq (a * 160 + b) pair) [
         | inl e ↦
-          let ea : a ≡ at starts n = omega arith in
-          let eb : b ≡ at starts (at next n) = omega arith in
-          let r : Runs starts next a b n = record { from = sym ea; to = sym eb } in
-          let old = t .each a b ka kb in
-          let now-at : at (set table pair w) (a * 160 + b) ≡ w = rw e (getD-set-same table pair w 0 (omega (arith, t .size))) in
-          rw now-at (elim (cases-eq (at table (a * 160 + b)) 0) [
-            | inl z ↦ rw (first (rw (sym e) z)) (tally-first n (Runs starts next a b) _ old r few z)
-            | inr nz ↦ rw (again (λ z. nz (rw e z))) (tally-again n (Runs starts next a b) _ old r nz) ])
-        | inr ne ↦ other a b ka kb ne w ];
+            let ea : a ≡ at starts n = omega arith in
+            let eb : b ≡ at starts (at next n) = omega arith in
+            let r : Runs starts next a b n = record { from = sym ea; to = sym eb } in
+            let old = t .each a b ka kb in
+            let now-at : at (set table pair w) (a * 160 + b) ≡ w = rw e (getD-set-same table pair w 0 (omega (arith, t .size))) in
+            rw now-at (elim (cases-eq (at table (a * 160 + b)) 0) [
+              | inl z ↦ rw (first (rw (sym e) z)) (tally-first n (Runs starts next a b) _ old r few z)
+              | inr nz ↦ rw (again (λ z. nz (rw e z))) (tally-again n (Runs starts next a b) _ old r nz)
+            ])
+        | inr ne ↦ other a b ka kb ne w
+      ];
     }
 
 -- what the whole table says of the edge e

@@ -23,9 +23,9 @@ use Rattle.tables.proofs.Joining.{mesh-from}
 use Rattle.tables.proofs.Meshing.{seamed, draws}
 
 module _ (t : Tables) (counts : Counts (length (t .points)) (length (t .corners)) (length (t .faces)))
-         (near : (q : ℕ) → q < length (t .points) → Near (getD (t .points) q noPoint))
-         (w : Walk) (complete : Complete (t .corners) (t .faces) w)
-         (next : List ℕ) (next-size : length next ≡ 480) (next-is : (k : ℕ) → k < length (t .corners) → at next k ≡ nextOf (t .corners) (w .home) k) where
+    (near : (q : ℕ) → q < length (t .points) → Near (getD (t .points) q noPoint))
+    (w : Walk) (complete : Complete (t .corners) (t .faces) w)
+    (next : List ℕ) (next-size : length next ≡ 480) (next-is : (k : ℕ) → k < length (t .corners) → at next k ≡ nextOf (t .corners) (w .home) k) where
   pub links : Linked (t .corners) (t .faces) (used t next)
   links = linked (t .corners) (t .faces) w next (counts .corners-to) next-size complete next-is
 
@@ -41,7 +41,7 @@ module _ (t : Tables) (counts : Counts (length (t .points)) (length (t .corners)
         let a = complete .walked in
         subst (λ (r : List (List ℕ)). All (AtHome (used t (w .home))) r) (sym same)
         (homes-kept (w .home) (used t (w .home)) (a .rounds)
-          (λ k m. getD-take (length (t .corners)) (w .home) k 0 (each-within (t .corners) (t .faces) (a .rounds) k (a .drawn .chains) m)) (a .homes))
+        (λ k m. getD-take (length (t .corners)) (w .home) k 0 (each-within (t .corners) (t .faces) (a .rounds) k (a .drawn .chains) m)) (a .homes))
 
   few : length (t .corners) ≤ 480
   few = counts .corners-to
@@ -63,10 +63,10 @@ module _ (t : Tables) (counts : Counts (length (t .points)) (length (t .corners)
   home-inside : (k : ℕ) → k < length (t .corners) → at (used t (w .home)) k < length (t .corners)
   home-inside k h =
       in-rounds _ (home-in (used t (w .home)) (complete .walked .rounds) (homes-all (complete .walked .rounds) refl) k
-        (covers (t .corners) (t .faces) w (complete .walked) few (complete .met-all) k h))
+      (covers (t .corners) (t .faces) w (complete .walked) few (complete .met-all) k h))
 
   module _ (p : Pointed (t .points) (t .corners)) (starts : List ℕ) (starts-are : used t starts ≡ startsOf (t .corners))
-           (opposite : List ℕ) (o : Opposed (length (t .points)) (startsOf (t .corners)) (used t next) opposite) where
+      (opposite : List ℕ) (o : Opposed (length (t .points)) (startsOf (t .corners)) (used t next) opposite) where
     count : length (startsOf (t .corners)) ≡ length (t .corners)
     count = length-map (t .corners) _
 

@@ -8,7 +8,11 @@ use drawing::fault::Fault;
 
 /// The opposite of each edge, in the first places. Refuses an edge without one, then a point about which the edges form
 /// more than one ring, then an edge that is not reached from edge 1.
-pub fn join_edges(point_count: usize, starts: &[usize], next: &[usize]) -> Result<[usize; 480], Fault>
+pub fn join_edges(
+    point_count: usize,
+    starts: &[usize],
+    next: &[usize],
+) -> Result<[usize; 480], Fault>
     requires { ⌜ Seamed «point_count» (now starts) (now next) ⌝ }
     ensures { λ r. ⌜ Cases r (Opposed «point_count» (now (starts .entry)) (now (next .entry))) (EdgesRefused «point_count» (now (starts .entry)) (now (next .entry))) ⌝ }
 {

@@ -22,9 +22,10 @@ returns-then-not-follow c = record {
 
 pub loop-k-again : need.loop-k-again
 loop-k-again c =
-    let t = c .if-not-follow .ensures tt in
-    ( walked-next _ _ _ (c .loop-k-test .taken) _ (c .loop-k .inv .0) _ t
-    , below-more _ _ (c .loop-k .inv .1) (followed-next _ _ _ (c .loop-k-test .taken) _ (c .loop-k .inv .0) _ t) )
+    let t = c .if-not-follow .ensures tt in (
+      walked-next _ _ _ (c .loop-k-test .taken) _ (c .loop-k .inv .0) _ t,
+      below-more _ _ (c .loop-k .inv .1) (followed-next _ _ _ (c .loop-k-test .taken) _ (c .loop-k .inv .0) _ t),
+    )
 
 pub returns : need.returns
 returns c = rw (take-all _ _ (c .loop-k-test .left)) at (c .loop-k .inv .0)

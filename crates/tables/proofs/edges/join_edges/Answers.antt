@@ -40,15 +40,16 @@ returns-in-Break-all-reached c =
     let e = c .in-Continue-opposite .ensures tt in
     let j = joined-take _ _ (c .in-Continue-opposite .opposite) (c .pre .bounded .few) (e .size) (e .each) in
     rw (p .1, p .2) (unreached _ j (rw (sub-zero (length (c .args .starts .now))) at (c .in-Continue-whole-points .ensures tt))
-      (rw (sub-zero (length (c .args .starts .now)), c .pre .bounded .next-size) at (c .in-Break-all-reached .ensures tt)))
+    (rw (sub-zero (length (c .args .starts .now)), c .pre .bounded .next-size) at (c .in-Break-all-reached .ensures tt)))
 
 pub returns : need.returns
 returns c =
     let e = c .in-Continue-opposite .ensures tt in
-    let j = joined-take _ _ (c .in-Continue-opposite .opposite) (c .pre .bounded .few) (e .size) (e .each) in
-    ( e .size
-    , record {
+    let j = joined-take _ _ (c .in-Continue-opposite .opposite) (c .pre .bounded .few) (e .size) (e .each) in (
+      e .size,
+      record {
         joined = j;
         whole = rw (sub-zero (length (c .args .starts .now))) at (c .in-Continue-whole-points .ensures tt);
         reached = rw (sub-zero (length (c .args .starts .now)), c .pre .bounded .next-size) at (c .in-Continue-all-reached .ensures tt);
-      } )
+      },
+    )

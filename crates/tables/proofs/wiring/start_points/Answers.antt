@@ -11,9 +11,10 @@ use Rattle.tables.proofs.wiring.start_points.Needs as need
 pub loop-k-again : need.loop-k-again
 loop-k-again c =
     let k = c .loop-k .k in
-    let lt : k < length (c .loop-k .starts) = omega (arith, c .loop-k .inv .0) in
-    ( length-set (c .loop-k .starts) k _ ∙ c .loop-k .inv .0
-    , take-more-set (c .loop-k .starts) k _ lt ∙ (rw (c .loop-k .inv .1) (sym (map-more (λ d. d .point - 1) (c .args .corners .now) k noCorner (c .loop-k-test .taken)))) )
+    let lt : k < length (c .loop-k .starts) = omega (arith, c .loop-k .inv .0) in (
+      length-set (c .loop-k .starts) k _ ∙ c .loop-k .inv .0,
+      take-more-set (c .loop-k .starts) k _ lt ∙ (rw (c .loop-k .inv .1) (sym (map-more (λ d. d .point - 1) (c .args .corners .now) k noCorner (c .loop-k-test .taken)))),
+    )
 
 pub returns : need.returns
 returns c =

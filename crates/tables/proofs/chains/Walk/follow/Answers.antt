@@ -11,8 +11,9 @@ returns-then-number-corners c =
     elim (c .then-number-corners .came) [
       | then-number-corners·by·then-number-corners w ↦ λ ks h d. leads-out _ _ _ _ _ (c .loop-number .inv) (omega arith) (omega arith) ks h
       | then-number-corners·by·else-number-corners·then-self-number-ne-UNMET w ↦
-        let k = c .loop-number .number - 1 in
-        meets-again _ _ _ _ _ (c .loop-number .inv) k (omega arith) (omega arith) (w .if-self-number-ne-UNMET .taken) ]
+          let k = c .loop-number .number - 1 in
+          meets-again _ _ _ _ _ (c .loop-number .inv) k (omega arith) (omega arith) (w .if-self-number-ne-UNMET .taken)
+    ]
 
 pub meet-requires : need.meet-requires
 meet-requires c κs =

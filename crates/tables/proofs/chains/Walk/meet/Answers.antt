@@ -3,7 +3,6 @@ use Prim.Native.Nat.{_<_}
 use Rattle.tables.proofs.Meeting.{has-room, meets}
 use Rattle.tables.proofs.chains.Walk.meet.Needs as need
 
-
 pub offset-self-self : need.offset-self-self
 offset-self-self c = omega (arith, has-room (c .args .self .now) (c .args .k) (c .args .home) (c .pre .steady) (c .pre .within .0) (c .pre .within .1) (c .pre .fresh))
 

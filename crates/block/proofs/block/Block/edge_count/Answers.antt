@@ -1,4 +1,0 @@
-use Rattle.block.proofs.block.Block.edge_count.Needs as need
-
-pub returns : need.returns
-returns c = c .args .self .now .counts .1

@@ -1,0 +1,3 @@
+//! The works' own examples, put through the drawing checks.
+#[cfg(test)]
+mod tests;

@@ -1,0 +1,3 @@
+pub mod Following
+pub mod Tallies
+pub mod Judged

@@ -1,0 +1,4 @@
+mod Splits
+mod Parses
+mod Fields
+mod Examples
