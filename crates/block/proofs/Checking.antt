@@ -1,23 +1,22 @@
 -- From the two layers to the verdict and the checked block.
 use mathlib.Core.Path.{_≡_, refl, sym, _∙_, ap, subst}
-use mathlib.Core.Logic.{_⊎_, inl, inr}
+use mathlib.Core.Logic.{inl, inr}
 use mathlib.Core.List.{List}
-use Prim.Native.Nat.{ℕ, _+_, _-_, _<_, _≤_}
+use Prim.Native.Nat.{ℕ, _-_, _<_, _≤_}
 use native.Mathlib.Omega.{arith}
-use lib.ListN.{length, getD, take}
+use lib.ListN.{length, take}
 use Rattle.std.proofs.shelf.Lists.{getD-map, length-map}
 use Rattle.std.proofs.shelf.Tests.{cases-order}
 use Rattle.solid.specs.declared.Point.{Point}
 use Rattle.drawing.specs.declared.record.Corner.{Corner}
 use Rattle.drawing.specs.declared.fault.Fault.{Fault}
 use Rattle.drawing.specs.declared.fault.Cause.the-variants.{BentFace, LevelFaces, NoVolume}
-use Rattle.drawing.specs.Lists.{at}
 use Rattle.drawing.specs.Chains.{noCorner}
-use Rattle.drawing.specs.Nets.{Net, noPoint, startsOf, marksOf, edges, start, end, pointAt}
-use Rattle.drawing.specs.Verdicts.{Tables, Repeated, Draws, Sound, Refused}
+use Rattle.drawing.specs.Nets.{Net, startsOf, marksOf, edges, start, pointAt}
+use Rattle.drawing.specs.Verdicts.{Tables, Draws, Sound, Refused}
 use Rattle.drawing.proofs.Linking.{next-onto}
 use Rattle.drawing.proofs.Passing.{passes-flat, passes-level, passes-volume}
-use Rattle.drawing.proofs.Judgement.{Below, below-more, sound-below, refused-below, refused-once, sound-not-refused}
+use Rattle.drawing.proofs.Judgement.{below-more, sound-below, refused-below, refused-once, sound-not-refused}
 use Rattle.tables.specs.declared.wiring.Wiring.{Wiring}
 use Rattle.tables.specs.Wirings.{netOf, used, Wired}
 use Rattle.tables.proofs.Passed.{edges-are, all-matched, wired-passes}

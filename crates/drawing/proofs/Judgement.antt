@@ -1,8 +1,7 @@
 -- The verdict of any tables is one: the first check that fails, at its place, or that none does.
 use mathlib.Core.Path.{_≡_, refl, sym, _∙_, ap, subst}
-use mathlib.Core.Logic.{_⊎_, inl, inr}
+use mathlib.Core.Logic.{inl, inr}
 use mathlib.Core.Bool.{cond}
-use mathlib.Core.List.{List}
 use Prim.Native.Nat.{ℕ, _+_, _<_, _≤_}
 use native.Mathlib.Omega.{arith}
 use lib.Dec.{eqb}
@@ -14,7 +13,7 @@ use Rattle.drawing.specs.declared.fault.Fault.{Fault}
 use Rattle.drawing.specs.Causes.{number}
 use Rattle.drawing.specs.Lowest.{Lowest}
 use Rattle.drawing.specs.Nets.{Net, Matched, edges, startsOf}
-use Rattle.drawing.specs.Verdicts.{Tables, Missed, Followed, Draws, Drawn, Fails, Passes, Refused, Sound}
+use Rattle.drawing.specs.Verdicts.{Tables, Draws, Drawn, Fails, Passes, Refused, Sound}
 use Rattle.drawing.proofs.Following.{rounds-take}
 use Rattle.drawing.proofs.Linking.{linked-once, draws-once, edge-count}
 use Rattle.drawing.proofs.Lows.{lowest-once, none-lowest}

@@ -1,18 +1,18 @@
 -- The tables draw one net at the most, whose next edges are a permutation.
-use mathlib.Core.Path.{_≡_, refl, sym, _∙_, ap, subst}
-use mathlib.Core.Logic.{_⊎_, inl, inr}
-use mathlib.Core.List.{List, [], _∷_, _++_, map}
+use mathlib.Core.Path.{_≡_, sym, _∙_, ap, subst}
+use mathlib.Core.Logic.{inl, inr}
+use mathlib.Core.List.{List, [], _∷_, map}
 use Prim.Native.Nat.{ℕ, _-_, _<_}
 use native.Mathlib.Omega.{arith}
-use lib.ListN.{length, getD}
+use lib.ListN.{length}
 use Rattle.std.specs.shelf.Lists.{All}
 use Rattle.std.proofs.shelf.Lists.{ext-getD, length-map}
 use Rattle.std.proofs.shelf.Tests.{cases-eq}
 use Rattle.drawing.specs.declared.record.Corner.{Corner}
 use Rattle.drawing.specs.declared.record.Face.{Face}
 use Rattle.drawing.specs.Lists.{at, _∈_, Distinct, flat, rotated}
-use Rattle.drawing.specs.Chains.{Rounds, Linked}
-use Rattle.drawing.specs.Nets.{Net, Runs, Matched, startsOf, edges, start, end}
+use Rattle.drawing.specs.Chains.{Linked}
+use Rattle.drawing.specs.Nets.{Net, Runs, Matched, edges, start, end}
 use Rattle.drawing.specs.Verdicts.{Tables, Draws}
 use Rattle.drawing.proofs.Members.{in-left, in-right, in-cases, in-map, from-map, in-rotated, in-rotated-back, rotated-distinct, distinct-left, distinct-right, distinct-apart, map-once}
 use Rattle.drawing.proofs.Following.{each-once, each-within}

@@ -6,7 +6,7 @@ use Prim.Native.Nat.{ℕ, zero, suc, _<_}
 use native.Mathlib.Omega.{arith}
 use lib.ListN.{length}
 use Rattle.std.specs.shelf.Lists.{All}
-use Rattle.drawing.specs.Lists.{at, _∈_, Distinct, flat, rotated}
+use Rattle.drawing.specs.Lists.{at, _∈_, Distinct, rotated}
 
 pub in-left : (x : ℕ) (xs ys : List ℕ) → x ∈ xs → x ∈ (xs ++ ys)
 in-left x [] ys h = absurd h

@@ -1,16 +1,15 @@
 -- When each check passes.
-use mathlib.Core.Path.{_≡_, refl, sym, _∙_, subst}
-use mathlib.Core.Logic.{_⊎_, inl, inr}
+use mathlib.Core.Path.{_≡_, subst}
+use mathlib.Core.Logic.{inl, inr}
 use mathlib.Core.List.{List}
 use Prim.Native.Nat.{ℕ, _+_, _<_}
 use native.Mathlib.Omega.{arith}
 use lib.ListN.{length, getD, take}
 use lib.IntN.{pos}
-use lib.Signed.{_<ℤ_, _≤ℤ_}
+use lib.Signed.{_<ℤ_}
 use borrow.Author.Differences.{ints}
 use Rattle.solid.specs.Points.{Near}
 use Rattle.drawing.specs.declared.fault.Cause.the-variants.{TableCount, Coordinate, BrokenChain, PointNumber, LoosePoint, DoublePoint, UnmatchedEdge, PinchedPoint, UnreachedEdge, BentFace, LevelFaces, NoVolume}
-use Rattle.drawing.specs.Lists.{_∈_, flat}
 use Rattle.drawing.specs.Chains.{Linked}
 use Rattle.drawing.specs.Nets.{Net, noPoint, startsOf, Matched, edges, Reached, Whole, bend, fold, content}
 use Rattle.drawing.specs.Verdicts.{Tables, Counts, Followed, Missed, Named, Used, Repeated, Draws, Drawn, Passes}

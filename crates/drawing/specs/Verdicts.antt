@@ -112,10 +112,6 @@ Fails t NoVolume p = (p ≡ 0) × Drawn t (λ m. (linked : Linked (t .corners) (
 abbrev pub Passes : Tables → Cause → Type 0
 Passes t c = (p : ℕ) → Fails t c p → ⊥
 
--- The checks up to the number n pass.
-abbrev pub PassesTo : Tables → ℕ → Type 0
-PassesTo t n = (c : Cause) → number c ≤ n → Passes t c
-
 -- The verdict: the first check that fails, with its place ..
 pub record Refused (t : Tables) (f : Fault) : Type 0 where
   pub earlier : (c : Cause) → number c < number (f .cause) → Passes t c

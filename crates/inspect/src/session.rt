@@ -35,7 +35,7 @@ pub struct Session {
 }
 
 impl Session {
-    pub fn new(heap: Global) -> Self
+    pub(crate) fn new(heap: Global) -> Self
         ensures tables { λ r. ⌜ Holds (r .tables) [] [] [] ⌝ }
         ensures tally { λ r. ⌜ (r .tally .sound ≡ 0) × (r .tally .refused ≡ 0) ⌝ }
     {
@@ -50,7 +50,11 @@ impl Session {
     }
 
     /// Reads and follows every line of `input`.
-    pub fn read<R: BufRead + Drop>(&mut self, rt: &impl Print, mut input: R) -> Result<(), Stop> {
+    pub(crate) fn read<R: BufRead + Drop>(
+        &mut self,
+        rt: &impl Print,
+        mut input: R,
+    ) -> Result<(), Stop> {
         for number in 1..u64::MAX {
             self.line.clear();
             if input.read_until(b'\n', &mut self.line)? == 0 {
@@ -93,7 +97,7 @@ impl Session {
     }
 
     /// Says what was done.
-    pub fn sum_up(&self, rt: &impl Print) -> io::Result<()> {
+    pub(crate) fn sum_up(&self, rt: &impl Print) -> io::Result<()> {
         let sound = self.tally.sound;
         let refused = self.tally.refused;
         let all = sound.saturating_add(refused);

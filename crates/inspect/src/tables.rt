@@ -22,7 +22,7 @@ pub struct Tables {
 }
 
 impl Tables {
-    pub fn new(heap: Global) -> Self
+    pub(crate) fn new(heap: Global) -> Self
         ensures { λ r. ⌜ Holds r [] [] [] ⌝ }
     {
         Tables {
@@ -32,7 +32,7 @@ impl Tables {
         }
     }
 
-    pub fn clear(&mut self)
+    pub(crate) fn clear(&mut self)
         ensures { λ _. ⌜ Holds (now (self .exit)) [] [] [] ⌝ }
     {
         self.points.clear();
@@ -40,14 +40,14 @@ impl Tables {
         self.faces.clear();
     }
 
-    pub fn is_empty(&self) -> bool
+    pub(crate) fn is_empty(&self) -> bool
         ensures { λ r. ⌜ r ≡ eqb (vec-len (now (self .entry) .points)) 0 && (eqb (vec-len (now (self .entry) .corners)) 0 && eqb (vec-len (now (self .entry) .faces)) 0) ⌝ }
     {
         self.points.is_empty() && self.corners.is_empty() && self.faces.is_empty()
     }
 
     /// The verdict of the drawing checks.
-    pub fn judge(&self) -> Answer
+    pub(crate) fn judge(&self) -> Answer
         ensures { λ r. ⌜ Judged (tables (vec-items (now (self .entry) .points)) (vec-items (now (self .entry) .corners)) (vec-items (now (self .entry) .faces))) r ⌝ }
     {
         match check(

@@ -10,7 +10,7 @@ pub struct Tally {
 }
 
 impl Tally {
-    pub fn count(&mut self, answer: Answer)
+    pub(crate) fn count(&mut self, answer: Answer)
         ensures { λ _. ⌜ now (self .exit) ≡ counted (now (self .entry)) answer ⌝ }
     {
         match answer {

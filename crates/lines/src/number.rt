@@ -4,19 +4,19 @@ ghost use Prim.Native.Nat.{_^_};
 ghost use Rattle.lines.specs.Numbers.{unsigned, signed};
 use std::str;
 
-pub fn coordinate(word: &[u8]) -> Option<i64>
+pub(crate) fn coordinate(word: &[u8]) -> Option<i64>
     ensures { λ r. ⌜ r ≡ signed (2 ^ 63) (now (word .entry)) ⌝ }
 {
     str::from_utf8(word).ok()?.parse::<i64>().ok()
 }
 
-pub fn index(word: &[u8]) -> Option<usize>
+pub(crate) fn index(word: &[u8]) -> Option<usize>
     ensures { λ r. ⌜ r ≡ unsigned (2 ^ 64) (now (word .entry)) ⌝ }
 {
     str::from_utf8(word).ok()?.parse::<usize>().ok()
 }
 
-pub fn mark(word: &[u8]) -> Option<u8>
+pub(crate) fn mark(word: &[u8]) -> Option<u8>
     ensures { λ r. ⌜ r ≡ unsigned (2 ^ 8) (now (word .entry)) ⌝ }
 {
     str::from_utf8(word).ok()?.parse::<u8>().ok()

@@ -33,7 +33,7 @@ fn letters(text: &[u8]) -> usize
 }
 
 /// The first word, which is empty where there is none, and what follows it.
-pub fn split_word(text: &[u8]) -> (&[u8], &[u8])
+pub(crate) fn split_word(text: &[u8]) -> (&[u8], &[u8])
     ensures { λ r. ⌜ words (now (text .entry)) ≡ following (now (r .0)) (words (now (r .1))) ⌝ }
 {
     let (_, text) = text.split_at(blanks(text));

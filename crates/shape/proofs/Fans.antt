@@ -3,7 +3,7 @@ use mathlib.Core.Path.{_≡_, refl, _∙_, ap}
 use mathlib.Core.List.{List, [], _∷_, _++_, map}
 use Prim.Native.Nat.{ℕ}
 use native.Mathlib.Omega.{arith}
-use lib.IntN.{ℤ, pos, _+ℤ_}
+use lib.IntN.{ℤ, pos}
 use borrow.Author.Differences.{ints}
 use Rattle.std.specs.shelf.Lists.{All}
 use Rattle.algebra.proofs.Ring.{Expr, con, var, _⊕_, _⊖_, _⊗_, ring}

@@ -1,6 +1,6 @@
 -- Points, vectors and the signed volume.
-use Prim.Native.Nat.{ℕ, _≤_}
-use lib.IntN.{ℤ, pos, _+ℤ_, _-ℤ_, _*ℤ_, natAbs}
+use Prim.Native.Nat.{_≤_}
+use lib.IntN.{ℤ, _+ℤ_, _-ℤ_, _*ℤ_, natAbs}
 use Rattle.solid.specs.declared.Point.{Point}
 use Rattle.solid.specs.declared.Vector.{Vector}
 

@@ -1,8 +1,8 @@
 //! Points, vectors and the signed volume.
 //! These functions are for the crates above: they ask that coordinates are small, which the drawing checks establish.
 ghost use mathlib.Core.Path.{_≡_};
-ghost use Prim.Native.Nat.{ℕ, _≤_};
-ghost use lib.IntN.{ℤ, natAbs};
+ghost use Prim.Native.Nat.{_≤_};
+ghost use lib.IntN.{natAbs};
 ghost use Rattle.solid.specs.Points.{Near, Far, between, place, volume};
 
 /// A point, in whole millimetres.

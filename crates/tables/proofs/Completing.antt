@@ -1,28 +1,24 @@
 -- The chains of all faces, face by face, and the next edges that go round them.
-use mathlib.Core.Path.{_≡_, refl, sym, _∙_, ap, subst}
-use mathlib.Core.Logic.{_≢_, _⊎_, inl, inr}
+use mathlib.Core.Path.{_≡_, refl, sym, _∙_, ap}
+use mathlib.Core.Logic.{inl, inr}
 use mathlib.Core.List.{List, [], _∷_, _++_, map}
-use mathlib.Core.Bool.{cond}
 use Prim.Native.Nat.{ℕ, _+_, _-_, _<_, _≤_}
 use native.Mathlib.Omega.{arith}
 use lib.Dec.{eqb}
 use lib.ListN.{length, take, getD}
 use Rattle.std.specs.shelf.Lists.{All}
-use Rattle.std.proofs.shelf.Lists.{take-more, take-all, getD-take, length-take-le}
+use Rattle.std.proofs.shelf.Lists.{take-more, getD-take, length-take-le}
 use Rattle.std.proofs.shelf.Elements.{all-push}
 use Rattle.std.proofs.shelf.Tests.{eq-eqb, ne-eqb, cond-true, cond-false}
 use Rattle.drawing.specs.declared.record.Corner.{Corner}
 use Rattle.drawing.specs.declared.record.Face.{Face}
-use Rattle.drawing.specs.declared.fault.Fault.{Fault}
 use Rattle.drawing.specs.Lists.{at, _∈_, Distinct, flat, rotated}
-use Rattle.drawing.specs.Lowest.{Lowest}
-use Rattle.drawing.specs.Chains.{nextIndex, Follows, Chain, EachChain, Rounds, AtHome, Linked}
-use Rattle.drawing.specs.Verdicts.{Followed, Missed, ChainFails}
+use Rattle.drawing.specs.Chains.{nextIndex, Follows, Chain, EachChain, AtHome, Linked}
+use Rattle.drawing.specs.Verdicts.{Followed}
 use Rattle.drawing.proofs.Members.{in-left, in-right, in-cases, all-in, all-from-in}
 use Rattle.drawing.proofs.Following.{each-push, each-split, each-once, each-within, flat-push}
 use Rattle.tables.specs.declared.chains.Walk.{Walk}
-use Rattle.tables.specs.Walks.{listed, Steady, Taken, WalkedAll, MetAll, NotMet, Complete, nextOf}
-use Rattle.tables.proofs.Meeting.{steady-none}
+use Rattle.tables.specs.Walks.{listed, Steady, Taken, WalkedAll, MetAll, Complete, nextOf}
 
 abbrev noFace : Face
 noFace = record { first = 0 }
@@ -99,19 +95,6 @@ module _ (cs : List Corner) where
   module _ (fs : List Face) (w : Walk) (a : WalkedAll cs fs w) (few : length cs ≤ 480) where
     pub covers : MetAll (length cs) w → (k : ℕ) → k < length cs → k ∈ flat (a .rounds)
     covers m k lt = rw (a .listed-is) at (a .steady .seen k (omega arith) (m k lt))
-
-    pub missed : (f : Fault) → NotMet (length cs) w f → ChainFails cs fs (f .place)
-    missed f n =
-        inr (
-          n .place-is,
-          record {
-            rounds = a .rounds;
-            drawn = a .drawn;
-            corner = n .corner;
-            within = n .within;
-            missing = λ m. a .steady .fresh (n .corner) (omega (arith, n .within)) (n .unseen) (rw (sym (a .listed-is)) at m);
-          },
-        )
 
   -- the next edges go round a chain
   module _ (home next : List ℕ) (h : ℕ) where

@@ -6,8 +6,8 @@ use native.Mathlib.Omega.{arith}
 use lib.ListN.{length, take}
 use Rattle.std.proofs.shelf.Lists.{length-take-le, getD-take}
 use Rattle.drawing.specs.Lists.{at}
-use Rattle.drawing.specs.Nets.{Net, Runs, Mesh}
-use Rattle.tables.specs.Pairs.{Bounded, Faces}
+use Rattle.drawing.specs.Nets.{Net, Mesh}
+use Rattle.tables.specs.Pairs.{Faces}
 use Rattle.tables.specs.Stages.{Seamed, Joined}
 
 -- opposites in the first places of a list

@@ -2,8 +2,8 @@
 use mathlib.Core.Path.{_≡_, refl, sym, _∙_}
 use mathlib.Core.Logic.{_≢_, inl, inr}
 use mathlib.Core.Bool.{cond}
-use mathlib.Core.List.{List, [], _∷_, _++_}
-use Prim.Native.Nat.{ℕ, zero, suc, _+_, _<_, _≤_}
+use mathlib.Core.List.{[], _∷_, _++_}
+use Prim.Native.Nat.{ℕ, _+_, _<_}
 use native.Mathlib.Omega.{arith}
 use lib.Dec.{eqb}
 use lib.ListN.{length, set, replicate, length-set, length-replicate}
@@ -11,7 +11,7 @@ use lib.Seq.{getD-set-same, getD-set-other}
 use Rattle.std.proofs.shelf.Lists.{take-more-set, getD-replicate}
 use Rattle.std.proofs.shelf.Sums.{getD-le-sumBy, sumBy-set}
 use Rattle.std.proofs.shelf.Tests.{cases-eq, ne-eqb}
-use Rattle.drawing.specs.Lists.{at, _∈_}
+use Rattle.drawing.specs.Lists.{at}
 use Rattle.drawing.proofs.Members.{in-left, in-right, in-cases, in-one, distinct-push}
 use Rattle.tables.specs.declared.chains.Walk.{Walk}
 use Rattle.tables.specs.Walks.{listed, unmet, Steady, Meets}

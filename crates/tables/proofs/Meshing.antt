@@ -1,21 +1,20 @@
 -- The net of tables that pass, check by check.
-use mathlib.Core.Path.{_≡_, refl, sym, _∙_, ap}
-use mathlib.Core.List.{List, map}
-use Prim.Native.Nat.{ℕ, _+_, _-_, _<_, _≤_}
+use mathlib.Core.Path.{_≡_, refl, sym, _∙_}
+use mathlib.Core.List.{List}
+use Prim.Native.Nat.{ℕ, _-_, _<_}
 use native.Mathlib.Omega.{arith}
-use lib.ListN.{length, getD, take}
+use lib.ListN.{length, getD}
 use Rattle.std.proofs.shelf.Lists.{length-map, getD-map}
 use Rattle.solid.specs.Points.{Near}
 use Rattle.drawing.specs.declared.fault.Cause.the-variants.{TableCount, Coordinate, BrokenChain, PointNumber, LoosePoint, DoublePoint, UnmatchedEdge, PinchedPoint, UnreachedEdge}
 use Rattle.drawing.specs.Lists.{at}
 use Rattle.drawing.specs.Chains.{noCorner, Linked}
-use Rattle.drawing.specs.Nets.{Net, noPoint, startsOf, Runs, Matched, Mesh, Whole, Reached}
+use Rattle.drawing.specs.Nets.{Net, noPoint, startsOf, Matched, Whole, Reached}
 use Rattle.drawing.specs.declared.fault.Fault.{Fault}
 use Rattle.drawing.specs.Verdicts.{Tables, Counts, Named, Used, Repeated, Draws, Refused}
 use Rattle.drawing.proofs.Linking.{next-within, next-once}
 use Rattle.drawing.proofs.Passing.{passes-counts, passes-coordinates, passes-chains, passes-numbers, passes-used, passes-distinct, passes-matched, passes-whole, passes-reached}
 use Rattle.drawing.proofs.Judgement.{Below, below-none, below-more, refused-below}
-use Rattle.tables.specs.Pairs.{Bounded, Faces}
 use Rattle.tables.specs.Stages.{Pointed, PointsRefused, unnamed, loose, double, Seamed, Joined, EdgesRefused, unmatched, pinched, unreached}
 use Rattle.tables.specs.Wirings.{netWith}
 

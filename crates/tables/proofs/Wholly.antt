@@ -73,7 +73,7 @@ module _ (t : Tables) (counts : Counts (length (t .points)) (length (t .corners)
     pub wired : Wired t (record { starts = starts; next = next; opposite = opposite; order = w .order; home = w .home })
     wired =
         let cs = t .corners in
-        let closed = rw count at (o .1) in
+        let closed = rw count at (o .closed) in
         let d = draws t counts near (used t next) links (p .named) (p .all-used) (p .distinct) (used t opposite) (closed .joined) in
         let a = complete .walked in
         let same = each-once cs (t .faces) (a .rounds) (d .linked .rounds) (a .drawn .chains) (d .linked .drawn .chains) in

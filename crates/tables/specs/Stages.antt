@@ -1,6 +1,6 @@
 -- What a group of checks establishes, or which of them fails first.
 use mathlib.Core.Path.{_≡_}
-use mathlib.Core.List.{List, []}
+use mathlib.Core.List.{List}
 use Prim.Native.Nat.{ℕ, _<_, _≤_}
 use lib.ListN.{length, take}
 use Rattle.solid.specs.declared.Point.{Point}
@@ -45,8 +45,9 @@ pub record Closed (points : ℕ) (starts next opposite : List ℕ) : Type 0 wher
   pub reached : (e : ℕ) → e < length starts → Reached (bare starts next opposite) e
 
 -- The opposites stand in the first places of a list, one for each edge.
-abbrev pub Opposed : ℕ → (starts next : List ℕ) → List ℕ → Type 0
-Opposed points starts next list = (length list ≡ 480) × Closed points starts next (take (length starts) list)
+pub record Opposed (points : ℕ) (starts next list : List ℕ) : Type 0 where
+  pub size : length list ≡ 480
+  pub closed : Closed points starts next (take (length starts) list)
 
 pub data EdgesRefused (points : ℕ) (starts next : List ℕ) (f : Fault) : Type 0 where
   unmatched : RefusedAt UnmatchedEdge (length starts) (λ e. Matched starts next e → ⊥) f → EdgesRefused points starts next f

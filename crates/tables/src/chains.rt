@@ -2,7 +2,7 @@
 ghost use mathlib.Core.Path.{_≡_};
 ghost use mathlib.Core.List.{List, [], _++_};
 ghost use Prim.Native.Nat.{ℕ, _<_, _≤_};
-ghost use lib.ListN.{length, getD};
+ghost use lib.ListN.{length};
 ghost use Rattle.std.specs.Orderings.{When};
 ghost use Rattle.drawing.specs.Lists.{at, Distinct};
 ghost use Rattle.std.specs.Results.{Cases};
@@ -30,7 +30,7 @@ pub struct Walk {
 }
 
 impl Walk {
-    pub fn new() -> Self
+    pub(crate) fn new() -> Self
         ensures none { λ r. ⌜ listed r ≡ [] ⌝ }
         ensures steady { λ r. ⌜ Steady r ⌝ }
     {
@@ -55,7 +55,7 @@ impl Walk {
 
     /// Follows the chain from the corner number `first`. False where it is no chain: it leads out of the table, to a
     /// corner that was met before, or has fewer than three corners.
-    pub fn follow(&mut self, corners: &[Corner], first: usize) -> bool
+    pub(crate) fn follow(&mut self, corners: &[Corner], first: usize) -> bool
         requires steady { ⌜ Steady (now self) ⌝ }
         requires few { ⌜ length (now corners) ≤ 480 ⌝ }
         ensures { λ r. ⌜ When r (Taken (now (corners .entry)) first (now (self .entry)) (now (self .exit))) ((ks : List ℕ) → Chain (now (corners .entry)) first ks → Distinct (listed (now (self .entry)) ++ ks) → ⊥) ⌝ }
@@ -107,7 +107,7 @@ fn follow_faces(corners: &[Corner], faces: &[Face]) -> Result<Walk, Fault>
 }
 
 /// Follows the chains of all faces, which have to meet each corner once.
-pub fn walk_chains(corners: &[Corner], faces: &[Face]) -> Result<Walk, Fault>
+pub(crate) fn walk_chains(corners: &[Corner], faces: &[Face]) -> Result<Walk, Fault>
     requires { ⌜ length (now corners) ≤ 480 ⌝ }
     ensures { λ r. ⌜ Cases r (Complete (now (corners .entry)) (now (faces .entry))) (ChainRefused (now (corners .entry)) (now (faces .entry))) ⌝ }
 {
@@ -117,7 +117,7 @@ pub fn walk_chains(corners: &[Corner], faces: &[Face]) -> Result<Walk, Fault>
 }
 
 /// The next edge of each corner.
-pub fn next_edges(corners: &[Corner], home: &[usize; 480]) -> [usize; 480]
+pub(crate) fn next_edges(corners: &[Corner], home: &[usize; 480]) -> [usize; 480]
     requires { ⌜ length (now corners) ≤ 480 ⌝ }
     ensures size { λ r. ⌜ length r ≡ 480 ⌝ }
     ensures each { λ r. ⌜ ((k : ℕ) → k < length (now (corners .entry)) → at r k ≡ nextOf (now (corners .entry)) (now (home .entry)) k) ⌝ }

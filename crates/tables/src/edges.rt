@@ -8,7 +8,7 @@ use drawing::fault::Fault;
 
 /// The opposite of each edge, in the first places. Refuses an edge without one, then a point about which the edges form
 /// more than one ring, then an edge that is not reached from edge 1.
-pub fn join_edges(
+pub(crate) fn join_edges(
     point_count: usize,
     starts: &[usize],
     next: &[usize],

@@ -1,6 +1,6 @@
 // The opposite of each edge, by a table of the ordered pairs of points.
 ghost use mathlib.Core.Path.{_≡_};
-ghost use Prim.Native.Nat.{ℕ, _+_, _*_, _<_, _≤_};
+ghost use Prim.Native.Nat.{ℕ, _+_, _*_, _<_};
 ghost use lib.ListN.{length};
 ghost use Rattle.std.specs.Options.{Cases as BySome};
 ghost use Rattle.std.specs.Results.{Cases};
@@ -56,7 +56,7 @@ fn opposite_of(table: &[u16; 25600], starts: &[usize], next: &[usize], e: usize)
 }
 
 /// The opposite of each edge. Refuses the lowest edge that has none, or more than one.
-pub fn match_edges(starts: &[usize], next: &[usize]) -> Result<[usize; 480], Fault>
+pub(crate) fn match_edges(starts: &[usize], next: &[usize]) -> Result<[usize; 480], Fault>
     requires { ⌜ Bounded (now starts) (now next) ⌝ }
     ensures size { λ r. ⌜ Cases r (λ opposite. length opposite ≡ 480) (λ _. Unit {0}) ⌝ }
     ensures each { λ r. ⌜ Cases r (λ opposite. (e : ℕ) → e < length (now (starts .entry)) → Faces (now (starts .entry)) (now (next .entry)) e (at opposite e)) (RefusedAt UnmatchedEdge (length (now (starts .entry))) (λ e. Matched (now (starts .entry)) (now (next .entry)) e → ⊥)) ⌝ }

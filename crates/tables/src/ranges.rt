@@ -1,6 +1,5 @@
 // The ranges of counts, coordinates and point numbers.
-ghost use mathlib.Core.Path.{_≡_};
-ghost use Prim.Native.Nat.{ℕ, _<_, _≤_};
+ghost use Prim.Native.Nat.{_<_, _≤_};
 ghost use lib.IntN.{natAbs};
 ghost use lib.ListN.{length, getD};
 ghost use Rattle.std.specs.Orderings.{When};
@@ -16,7 +15,7 @@ use drawing::record::Corner;
 use solid::Point;
 
 /// Refuses counts outside their ranges.
-pub fn counts_in_range(points: usize, corners: usize, faces: usize) -> Result<(), Fault>
+pub(crate) fn counts_in_range(points: usize, corners: usize, faces: usize) -> Result<(), Fault>
     ensures { λ r. ⌜ Cases r (λ _. Counts points corners faces) (CountRefused points corners faces) ⌝ }
 {
     let points_fit = points >= 4 && points <= 160;
@@ -45,7 +44,7 @@ fn is_near(p: Point) -> bool
 }
 
 /// Refuses the lowest point with a coordinate outside its range.
-pub fn points_in_range(points: &[Point]) -> Result<(), Fault>
+pub(crate) fn points_in_range(points: &[Point]) -> Result<(), Fault>
     ensures { λ r. ⌜ Judges Coordinate (length (now (points .entry))) (λ q. Near (getD (now (points .entry)) q noPoint)) (λ q. Near (getD (now (points .entry)) q noPoint) → ⊥) r ⌝ }
 {
     for (k, p) in points.iter().enumerate() {
@@ -60,7 +59,7 @@ pub fn points_in_range(points: &[Point]) -> Result<(), Fault>
 }
 
 /// Refuses the lowest corner that names no point.
-pub fn point_numbers_in_range(point_count: usize, corners: &[Corner]) -> Result<(), Fault>
+pub(crate) fn point_numbers_in_range(point_count: usize, corners: &[Corner]) -> Result<(), Fault>
     ensures { λ r. ⌜ Judges PointNumber (length (now (corners .entry))) (Named (now (corners .entry)) «point_count») (λ k. Named (now (corners .entry)) «point_count» k → ⊥) r ⌝ }
 {
     for (k, c) in corners.iter().enumerate() {

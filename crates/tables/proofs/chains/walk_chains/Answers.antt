@@ -1,6 +1,5 @@
 use mathlib.Core.Logic.{inl}
 use Rattle.std.proofs.shelf.Results.{err-from-errBy}
-use Rattle.tables.proofs.Completing.{missed}
 use Rattle.tables.proofs.chains.walk_chains.Needs as need
 
 pub returns-in-Break-walk : need.returns-in-Break-walk

@@ -1,10 +1,8 @@
-use mathlib.Core.Path.{_≡_, sym, _∙_}
-use native.Mathlib.Omega.{arith}
 use native.Mathlib.Nat.{sub-zero}
 use lib.ListN.{length}
 use Rattle.std.proofs.shelf.Results.{err-from-errBy}
 use Rattle.tables.specs.Bare.{bare}
-use Rattle.tables.specs.Stages.{unmatched, pinched, unreached, Joined}
+use Rattle.tables.specs.Stages.{unmatched, pinched, unreached}
 use Rattle.tables.proofs.Joining.{joined-take, mesh-from}
 use Rattle.tables.proofs.edges.join_edges.Needs as need
 
@@ -45,11 +43,12 @@ returns-in-Break-all-reached c =
 pub returns : need.returns
 returns c =
     let e = c .in-Continue-opposite .ensures tt in
-    let j = joined-take _ _ (c .in-Continue-opposite .opposite) (c .pre .bounded .few) (e .size) (e .each) in (
-      e .size,
-      record {
+    let j = joined-take _ _ (c .in-Continue-opposite .opposite) (c .pre .bounded .few) (e .size) (e .each) in
+    record {
+      size = e .size;
+      closed = record {
         joined = j;
         whole = rw (sub-zero (length (c .args .starts .now))) at (c .in-Continue-whole-points .ensures tt);
         reached = rw (sub-zero (length (c .args .starts .now)), c .pre .bounded .next-size) at (c .in-Continue-all-reached .ensures tt);
-      },
-    )
+      };
+    }

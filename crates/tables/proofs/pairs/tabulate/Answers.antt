@@ -1,8 +1,4 @@
-use mathlib.Core.Path.{_≡_}
-use mathlib.Core.Logic.{_≢_}
 use native.Mathlib.Omega.{arith}
-use Prim.Native.Nat.{_+_, _*_}
-use lib.ListN.{getD}
 use Rattle.tables.proofs.Tallying.{tallied-none, tallied-more}
 use Rattle.tables.proofs.pairs.tabulate.Needs as need
 use Rattle.tables.proofs.pairs.tabulate.Needs.{then-table-pair-eq0, else-table-pair-eq0}

@@ -1,6 +1,3 @@
-use mathlib.Core.Path.{_≡_, sym}
-use mathlib.Core.Logic.{inl}
-use native.Mathlib.Omega.{arith}
 use native.Mathlib.Nat.{sub-zero}
 use lib.ListN.{length}
 use Rattle.std.proofs.shelf.Results.{err-from-errBy}

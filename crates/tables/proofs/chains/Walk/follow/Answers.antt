@@ -1,7 +1,5 @@
-use mathlib.Core.Path.{_≡_}
-use Prim.Native.Nat.{_+_, _-_, _<_, _≤_}
+use Prim.Native.Nat.{_-_}
 use native.Mathlib.Omega.{arith}
-use lib.ListN.{length}
 use Rattle.tables.proofs.Stepping.{walking-more, first-within, leads-out, meets-again, ended}
 use Rattle.tables.proofs.chains.Walk.follow.Needs as need
 use Rattle.tables.proofs.chains.Walk.follow.Needs.{then-number-corners·by·then-number-corners, then-number-corners·by·else-number-corners·then-self-number-ne-UNMET}

@@ -1,5 +1,3 @@
-use mathlib.Core.Path.{_≡_}
-use Prim.Native.Nat.{ℕ}
 use Rattle.tables.specs.Walks.{unmet}
 use Rattle.tables.proofs.Stepping.{Walking}
 use Rattle.tables.proofs.chains.Walk.follow.Given as given

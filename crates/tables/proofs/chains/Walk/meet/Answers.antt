@@ -1,5 +1,4 @@
 use native.Mathlib.Omega.{arith}
-use Prim.Native.Nat.{_<_}
 use Rattle.tables.proofs.Meeting.{has-room, meets}
 use Rattle.tables.proofs.chains.Walk.meet.Needs as need
 
