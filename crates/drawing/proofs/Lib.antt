@@ -4,3 +4,4 @@ pub mod Linking
 pub mod Lows
 pub mod Passing
 pub mod Judgement
+pub mod Copying

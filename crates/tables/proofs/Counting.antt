@@ -1,11 +1,9 @@
 -- A walk that has met each of n corners, and no other, has met n.
 use mathlib.Core.Path.{_≡_, refl}
 use mathlib.Core.Logic.{_≢_, inl, inr}
-use mathlib.Core.Bool.{cond}
 use mathlib.Core.List.{List, [], _∷_}
 use Prim.Native.Nat.{ℕ, zero, suc, _+_, _-_, _<_, _≤_}
 use native.Mathlib.Omega.{arith}
-use lib.Dec.{eqb}
 use lib.ListN.{length}
 use Rattle.std.proofs.shelf.Sums.{sumBy-cons}
 use Rattle.std.proofs.shelf.Tests.{cases-eq, eq-eqb, ne-eqb}
@@ -14,10 +12,7 @@ use Rattle.drawing.specs.declared.record.Face.{Face}
 use Rattle.drawing.specs.Lists.{at}
 use Rattle.drawing.proofs.Following.{each-within}
 use Rattle.tables.specs.declared.chains.Walk.{Walk}
-use Rattle.tables.specs.Walks.{unmet, Complete}
-
-abbrev lacks : ℕ → ℕ
-lacks h = cond (eqb h 480) 1 0
+use Rattle.tables.specs.Walks.{lacks, unmet, Complete}
 
 -- the first n places hold something else, and the others 480
 unmet-beyond : (xs : List ℕ) (n : ℕ) → n ≤ length xs → ((k : ℕ) → k < n → at xs k ≢ 480) → ((k : ℕ) → n ≤ k → k < length xs → at xs k ≡ 480) → unmet xs + n ≡ length xs

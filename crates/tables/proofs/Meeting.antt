@@ -1,11 +1,9 @@
 -- A walk that meets one corner more.
 use mathlib.Core.Path.{_≡_, refl, sym, _∙_}
 use mathlib.Core.Logic.{_≢_, inl, inr}
-use mathlib.Core.Bool.{cond}
 use mathlib.Core.List.{[], _∷_, _++_}
 use Prim.Native.Nat.{ℕ, _+_, _<_}
 use native.Mathlib.Omega.{arith}
-use lib.Dec.{eqb}
 use lib.ListN.{length, set, replicate, length-set, length-replicate}
 use lib.Seq.{getD-set-same, getD-set-other}
 use Rattle.std.proofs.shelf.Lists.{take-more-set, getD-replicate}
@@ -14,11 +12,7 @@ use Rattle.std.proofs.shelf.Tests.{cases-eq, ne-eqb}
 use Rattle.drawing.specs.Lists.{at}
 use Rattle.drawing.proofs.Members.{in-left, in-right, in-cases, in-one, distinct-push}
 use Rattle.tables.specs.declared.chains.Walk.{Walk}
-use Rattle.tables.specs.Walks.{listed, unmet, Steady, Meets}
-
--- the count of corners without a home, corner by corner
-abbrev lacks : ℕ → ℕ
-lacks h = cond (eqb h 480) 1 0
+use Rattle.tables.specs.Walks.{listed, lacks, unmet, Steady, Meets}
 
 module _ (w : Walk) (k h : ℕ) (s : Steady w) (lt : k < 480) (small : h < 480) (free : at (w .home) k ≡ 480) where
   in-home : k < length (w .home)

@@ -6,7 +6,7 @@ use mathlib.Core.Bool.{cond}
 use Prim.Native.Nat.{ℕ, _+_, _-_, _<_}
 use lib.Dec.{eqb}
 use lib.ListN.{length, take}
-use Rattle.std.specs.shelf.Lists.{countBy, All}
+use Rattle.std.specs.shelf.Lists.{sumBy, All}
 use Rattle.drawing.specs.declared.record.Corner.{Corner}
 use Rattle.drawing.specs.declared.record.Face.{Face}
 use Rattle.drawing.specs.declared.fault.Fault.{Fault}
@@ -20,9 +20,13 @@ use Rattle.tables.specs.declared.chains.Walk.{Walk}
 abbrev pub listed : Walk → List ℕ
 listed w = take (w .met) (w .order)
 
--- how many corners have no home yet
+-- 1 where a corner has no home yet, else 0
+abbrev pub lacks : ℕ → ℕ
+lacks h = cond (eqb h 480) 1 0
+
+-- how many corners have none
 abbrev pub unmet : List ℕ → ℕ
-unmet home = countBy (λ h. eqb h 480) home
+unmet home = sumBy lacks home
 
 -- Just the corners that were met have a home, none was met twice, and there is room for the others.
 pub record Steady (w : Walk) : Type 0 where

@@ -2,7 +2,7 @@ use mathlib.Core.Path.{_∙_}
 use native.Mathlib.Omega.{arith}
 use lib.ListN.{length-set}
 use Rattle.drawing.specs.Chains.{noCorner}
-use Rattle.block.proofs.Copying.{copied-more, copied-all}
+use Rattle.drawing.proofs.Copying.{copied-more, copied-all}
 use Rattle.block.proofs.body.checking.mark_table.Needs as need
 
 pub loop-k-again : need.loop-k-again

@@ -3,7 +3,7 @@ use native.Mathlib.Omega.{arith}
 use lib.ListN.{length-set}
 use Rattle.std.proofs.shelf.Lists.{map-id}
 use Rattle.drawing.specs.Nets.{noPoint}
-use Rattle.block.proofs.Copying.{copied-more, copied-all}
+use Rattle.drawing.proofs.Copying.{copied-more, copied-all}
 use Rattle.block.proofs.body.checking.point_table.Needs as need
 
 pub loop-k-again : need.loop-k-again
