@@ -1,1 +1,2 @@
 mod Checking
+pub mod Laws
