@@ -37,11 +37,6 @@ pub record Rounds (cs : List Corner) (fs : List Face) (rounds : List (List ℕ))
   pub chains : EachChain cs fs rounds
   pub apart : Distinct (flat rounds)
 
--- What stands at each corner of a chain is the chain's first corner.
-abbrev pub AtHome : List ℕ → List ℕ → Type 0
-AtHome home [] = Unit {0}
-AtHome home (k ∷ ks) = All (λ j. at home j ≡ k) (k ∷ ks)
-
 -- The chains of the faces, which meet each corner once, and the list of next edges, which goes round each chain.
 pub record Linked (cs : List Corner) (fs : List Face) (next : List ℕ) : Type 0 where
   pub rounds : List (List ℕ)

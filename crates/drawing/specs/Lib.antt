@@ -4,3 +4,4 @@ pub mod Lists
 pub mod Chains
 pub mod Nets
 pub mod Verdicts
+pub mod Homes

@@ -21,7 +21,7 @@ pub record Net : Type 0 where
   pub next : List ℕ
   pub opposite : List ℕ
 
--- the index of the point at which the edge of each corner starts
+-- the index of the point at which the edge of each corner starts; once check 4 passes, each number is 1 or more
 abbrev pub startsOf : List Corner → List ℕ
 startsOf cs = map (λ c. c .point - 1) cs
 

@@ -1,12 +1,9 @@
 // A run over the lines of an input.
 ghost use mathlib.Core.Path.{_≡_};
 ghost use mathlib.Core.List.{[]};
-ghost use Rattle.std.specs.Of.Vec.{vec-items};
 ghost use Rattle.std.specs.Vec.{made};
 ghost use Rattle.drawing.specs.Verdicts.{tables};
-ghost use Rattle.inspect.specs.Following.{Holds, Follows};
-ghost use Rattle.inspect.specs.Judged.{Judged};
-ghost use Rattle.inspect.specs.Tallies.{counted};
+ghost use Rattle.inspect.specs.Following.{Holds, Checks, Follows};
 use crate::stop::Stop;
 use crate::stop::StopFromIo;
 use crate::stop::StopFromRefused;
@@ -70,7 +67,7 @@ impl Session {
 
     /// Adds the record, or judges the tables.
     fn follow(&mut self, rt: &impl Print, line: Line) -> Result<(), Stop>
-        ensures { λ r. ⌜ made r (λ _. Follows (now (self .entry) .tables) line (now (self .exit) .tables)) ⌝ }
+        ensures { λ r. ⌜ made r (λ _. Follows (now (self .entry) .tables) (now (self .entry) .tally) line (now (self .exit) .tables) (now (self .exit) .tally)) ⌝ }
     {
         match line {
             Line::Point(point) => self.tables.points.push(point)?,
@@ -84,8 +81,7 @@ impl Session {
 
     /// Judges the tables in hand, and empties them.
     fn check(&mut self, rt: &impl Print) -> io::Result<()>
-        ensures tables { λ _. ⌜ Holds (now (self .exit) .tables) [] [] [] ⌝ }
-        ensures tally { λ _. ⌜ ((a : Answer) × Judged (tables (vec-items (now (self .entry) .tables .points)) (vec-items (now (self .entry) .tables .corners)) (vec-items (now (self .entry) .tables .faces))) a × (now (self .exit) .tally ≡ counted (now (self .entry) .tally) a)) ⌝ }
+        ensures { λ _. ⌜ Checks (now (self .entry) .tables) (now (self .entry) .tally) (now (self .exit) .tables) (now (self .exit) .tally) ⌝ }
     {
         let answer = self.tables.judge();
         self.tables.clear();

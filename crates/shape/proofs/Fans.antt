@@ -11,7 +11,7 @@ use Rattle.solid.specs.declared.Point.{Point}
 use Rattle.solid.specs.Points.{place, volume}
 use Rattle.drawing.specs.Lists.{at, flat, rotated}
 use Rattle.drawing.specs.Nets.{fanFrom, fan, content}
-use Rattle.drawing.specs.Chains.{AtHome}
+use Rattle.drawing.specs.Homes.{AtHome}
 use Rattle.shape.specs.Wedges.{corner, wedge, summed, Listed}
 use Rattle.shape.proofs.Sums.{summed-append}
 

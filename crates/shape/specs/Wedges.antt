@@ -11,7 +11,7 @@ use Rattle.solid.specs.Points.{place, volume}
 use Rattle.drawing.specs.declared.fault.Fault.{Fault}
 use Rattle.drawing.specs.declared.fault.Cause.the-variants.{NoVolume}
 use Rattle.drawing.specs.Lists.{at, flat, rotated}
-use Rattle.drawing.specs.Chains.{AtHome}
+use Rattle.drawing.specs.Homes.{AtHome}
 use Rattle.drawing.specs.Nets.{noPoint}
 
 -- the point at which an edge starts

@@ -13,7 +13,8 @@ use Rattle.std.proofs.shelf.Tests.{eq-eqb, ne-eqb, cond-true, cond-false}
 use Rattle.drawing.specs.declared.record.Corner.{Corner}
 use Rattle.drawing.specs.declared.record.Face.{Face}
 use Rattle.drawing.specs.Lists.{at, _∈_, Distinct, flat, rotated}
-use Rattle.drawing.specs.Chains.{nextIndex, Follows, Chain, EachChain, AtHome, Linked}
+use Rattle.drawing.specs.Chains.{nextIndex, Follows, Chain, EachChain, Linked}
+use Rattle.drawing.specs.Homes.{AtHome}
 use Rattle.drawing.specs.Verdicts.{Followed}
 use Rattle.drawing.proofs.Members.{in-left, in-right, in-cases, all-in, all-from-in}
 use Rattle.drawing.proofs.Following.{each-push, each-split, each-once, each-within, flat-push}

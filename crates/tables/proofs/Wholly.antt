@@ -8,7 +8,8 @@ use Rattle.std.specs.shelf.Lists.{All}
 use Rattle.std.proofs.shelf.Lists.{getD-take, length-map, length-take-le}
 use Rattle.solid.specs.Points.{Near}
 use Rattle.drawing.specs.Lists.{at, _∈_, flat}
-use Rattle.drawing.specs.Chains.{Linked, AtHome}
+use Rattle.drawing.specs.Chains.{Linked}
+use Rattle.drawing.specs.Homes.{AtHome}
 use Rattle.drawing.specs.Nets.{noPoint, startsOf}
 use Rattle.drawing.specs.Verdicts.{Tables, Counts}
 use Rattle.drawing.proofs.Members.{in-at}

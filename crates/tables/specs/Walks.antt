@@ -12,7 +12,8 @@ use Rattle.drawing.specs.declared.record.Face.{Face}
 use Rattle.drawing.specs.declared.fault.Fault.{Fault}
 use Rattle.drawing.specs.declared.fault.Cause.the-variants.{BrokenChain}
 use Rattle.drawing.specs.Lists.{at, _∈_, Distinct, flat}
-use Rattle.drawing.specs.Chains.{nextIndex, Chain, Rounds, AtHome}
+use Rattle.drawing.specs.Chains.{nextIndex, Chain, Rounds}
+use Rattle.drawing.specs.Homes.{AtHome}
 use Rattle.drawing.specs.Verdicts.{ChainFails}
 use Rattle.tables.specs.declared.chains.Walk.{Walk}
 

@@ -6,7 +6,7 @@ use lib.ListN.{length, getD, take}
 use Rattle.std.specs.shelf.Lists.{All}
 use Rattle.solid.specs.Points.{Near}
 use Rattle.drawing.specs.Lists.{at, flat}
-use Rattle.drawing.specs.Chains.{AtHome}
+use Rattle.drawing.specs.Homes.{AtHome}
 use Rattle.drawing.specs.Nets.{Net, noPoint, startsOf, marksOf, Matched, Mesh, Whole, Reached}
 use Rattle.drawing.specs.Verdicts.{Tables, Counts, Named, Used, Repeated, Draws}
 use Rattle.tables.specs.declared.wiring.Wiring.{Wiring}
