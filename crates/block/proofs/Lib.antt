@@ -1,2 +1,3 @@
 mod Checking
 pub mod Laws
+mod Tabled

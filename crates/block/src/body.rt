@@ -6,6 +6,7 @@ ghost use Rattle.block.specs.Checked.{netOf, Checked};
 use solid::Point;
 
 pub mod checking;
+pub mod edges;
 
 /// A drawing that passed all checks: its points, and its directed edges with start, mark, next edge and opposite.
 #[derive(Drop)]

@@ -4,6 +4,7 @@ ghost use mathlib.Core.List.{[]};
 ghost use Prim.Native.Nat.{_<_, _≤_};
 ghost use lib.ListN.{length};
 ghost use lib.IntN.{natAbs};
+ghost use Rattle.solid.specs.Limits.{greatestVolume};
 ghost use Rattle.solid.specs.Points.{Far, place};
 ghost use Rattle.drawing.specs.Nets.{vector, bend, fold};
 ghost use Rattle.shape.specs.Edges.{shown, Placed, EdgeList};
@@ -82,7 +83,7 @@ pub(crate) fn wedge_at(
     requires homes { ⌜ EdgeList (length (now starts)) (now home) ⌝ }
     requires edge { ⌜ e < length (now starts) ⌝ }
     ensures is { λ r. ⌜ r ≡ wedge (now (points .entry)) (now (starts .entry)) (now (next .entry)) (now (home .entry)) e ⌝ }
-    ensures bound { λ r. ⌜ natAbs r ≤ 24576000000000 ⌝ }
+    ensures bound { λ r. ⌜ natAbs r ≤ greatestVolume ⌝ }
 {
     volume(
         corner_of(points, starts, home[e]),

@@ -13,6 +13,12 @@ two p q = p .x ∷ p .y ∷ p .z ∷ q .x ∷ q .y ∷ q .z ∷ []
 pub two-near : (p q : Point) → Near p × Near q → Within (each 6 8000) (two p q)
 two-near p q h = omega arith
 
+abbrev pub pair : Vector → Vector → List ℤ
+pair u v = u .x ∷ u .y ∷ u .z ∷ v .x ∷ v .y ∷ v .z ∷ []
+
+pub pair-far : (u v : Vector) → Far u × Far v → Within (each 6 16000) (pair u v)
+pair-far u v h = omega arith
+
 abbrev pub three : Vector → Vector → Vector → List ℤ
 three u v w = u .x ∷ u .y ∷ u .z ∷ v .x ∷ v .y ∷ v .z ∷ w .x ∷ w .y ∷ w .z ∷ []
 

@@ -1,1 +1,2 @@
 pub mod Points
+pub mod Limits

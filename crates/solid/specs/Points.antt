@@ -1,4 +1,4 @@
--- Points, vectors and the signed volume.
+-- Points, vectors, the dot product and the signed volume.
 use Prim.Native.Nat.{_≤_}
 use lib.IntN.{ℤ, _+ℤ_, _-ℤ_, _*ℤ_, natAbs}
 use Rattle.solid.specs.declared.Point.{Point}
@@ -23,6 +23,10 @@ between p q = record { x = q .x -ℤ p .x; y = q .y -ℤ p .y; z = q .z -ℤ p .
 -- the vector from the origin to p
 abbrev pub place : Point → Vector
 place p = record { x = p .x; y = p .y; z = p .z }
+
+-- the sum of the products of the coordinates
+abbrev pub dot : Vector → Vector → ℤ
+dot u v = u .x *ℤ v .x +ℤ u .y *ℤ v .y +ℤ u .z *ℤ v .z
 
 -- the determinant with rows u, v, w
 abbrev pub volume : Vector → Vector → Vector → ℤ

@@ -1,9 +1,10 @@
-//! Points, vectors and the signed volume.
+//! Points, vectors, the dot product and the signed volume.
 //! These functions are for the crates above: they ask that coordinates are small, which the drawing checks establish.
 ghost use mathlib.Core.Path.{_≡_};
 ghost use Prim.Native.Nat.{_≤_};
 ghost use lib.IntN.{natAbs};
-ghost use Rattle.solid.specs.Points.{Near, Far, between, place, volume};
+ghost use Rattle.solid.specs.Points.{Near, Far, between, place, dot, volume};
+ghost use Rattle.solid.specs.Limits.{greatestDot, greatestVolume};
 
 /// A point, in whole millimetres.
 #[derive(Clone, Copy, PartialEq, Eq)]
@@ -49,11 +50,20 @@ impl Vector {
     }
 }
 
+/// The sum of the products of the coordinates.
+pub fn dot(u: Vector, v: Vector) -> i64
+    requires { ⌜ Far u ⌝ ∗ ⌜ Far v ⌝ }
+    ensures is { λ r. ⌜ r ≡ dot u v ⌝ }
+    ensures bound { λ r. ⌜ natAbs r ≤ greatestDot ⌝ }
+{
+    u.x * v.x + u.y * v.y + u.z * v.z
+}
+
 /// The determinant whose rows are `u`, `v` and `w`.
 pub fn volume(u: Vector, v: Vector, w: Vector) -> i64
     requires { ⌜ Far u ⌝ ∗ ⌜ Far v ⌝ ∗ ⌜ Far w ⌝ }
     ensures is { λ r. ⌜ r ≡ volume u v w ⌝ }
-    ensures bound { λ r. ⌜ natAbs r ≤ 24576000000000 ⌝ }
+    ensures bound { λ r. ⌜ natAbs r ≤ greatestVolume ⌝ }
 {
     u.x * (v.y * w.z - v.z * w.y) + u.y * (v.z * w.x - v.x * w.z) + u.z * (v.x * w.y - v.y * w.x)
 }

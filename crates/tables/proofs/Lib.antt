@@ -1,7 +1,7 @@
 mod Meeting
 mod Stepping
 mod Completing
-mod Marking
+pub mod Marking
 mod Judging
 mod Naming
 mod Bucketing

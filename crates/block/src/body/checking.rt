@@ -5,7 +5,7 @@ ghost use lib.ListN.{length, take};
 ghost use Rattle.std.specs.Results.{Cases};
 ghost use Rattle.std.specs.declared.option.Option.{Option};
 ghost use Rattle.drawing.specs.declared.fault.Fault.{Fault};
-ghost use Rattle.drawing.specs.Nets.{marksOf, edges};
+ghost use Rattle.drawing.specs.Nets.{marksOf};
 ghost use Rattle.drawing.specs.Verdicts.{tables, Draws};
 ghost use Rattle.block.specs.Checked.{Checked, netFrom};
 ghost use Rattle.block.specs.Views.{view, fault-of, Verdict};
@@ -76,13 +76,4 @@ pub fn check(points: &[Point], corners: &[Corner], faces: &[Face]) -> Result<Blo
         &wiring.home[0..n],
     )?;
     Ok(assemble(points, corners, &wiring))
-}
-
-impl Block {
-    /// How many directed edges there are.
-    pub fn edge_count(&self) -> usize
-        ensures { λ r. ⌜ r ≡ edges (view (now (self .entry))) ⌝ }
-    {
-        self.edges
-    }
 }
