@@ -1,3 +1,6 @@
+mod laying;
+
+use block::Block;
 use block::check;
 use drawing::fault::Cause;
 use drawing::fault::CauseDebug;
@@ -78,14 +81,18 @@ impl Drawing {
         Ok(())
     }
 
-    /// The number of edges, or the refusal.
-    fn verdict(&self) -> Result<usize, Fault> {
-        let block = check(
+    /// The checked block, or the refusal.
+    fn block(&self) -> Result<Block, Fault> {
+        check(
             self.points.as_slice(),
             self.corners.as_slice(),
             self.faces.as_slice(),
-        )?;
-        Ok(block.edge_count())
+        )
+    }
+
+    /// The number of edges, or the refusal.
+    fn verdict(&self) -> Result<usize, Fault> {
+        Ok(self.block()?.edge_count())
     }
 }
 

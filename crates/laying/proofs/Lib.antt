@@ -1,0 +1,5 @@
+mod Hitting
+mod Judging
+mod Verdicts
+mod Congruent
+mod Answering

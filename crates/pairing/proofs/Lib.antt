@@ -1,0 +1,6 @@
+pub mod Composing
+pub mod Vectors
+pub mod Identities
+pub mod Frames
+pub mod Words
+pub mod Measuring

@@ -1,0 +1,3 @@
+pub mod Matchings
+pub mod Pairings
+pub mod Congruences
