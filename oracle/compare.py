@@ -3,49 +3,79 @@
 import sys
 from collections import Counter
 
+ANSWERED = ('check', 'label', 'lay')
 
-def drawings(path):
-    """The stream cut behind every `check` line."""
+
+def word(line):
+    return line.split(' ', 1)[0].rstrip('\n')
+
+
+def parts(path):
+    """The stream cut behind every line that is answered."""
     own = []
     for line in open(path):
         own.append(line)
-        if line == 'check\n':
+        if word(line) in ANSWERED:
             yield own
             own = []
 
 
+def agrees(expected, line):
+    """The line begins with these words."""
+    return line.startswith(expected) and line[len(expected):len(expected) + 1] in (' ', ':', '\n', '')
+
+
+def counted(expect):
+    """How often each answer is expected."""
+    words = [line.split() for line in expect]
+    checks = Counter(int(e[1]) for e in words if e[0] == 'check')
+    print('expected:', ', '.join('%d x%d' % (n, checks[n]) for n in sorted(checks)))
+    print('3 at place 0: %d times' % expect.count('check 3 0'))
+    labels = Counter(int(e[1]) for e in words if e[0] == 'label')
+    print('labels:', ', '.join('%d x%d' % (n, labels[n]) for n in sorted(labels)))
+    layings = Counter('13' if e[1] == '13' else ' '.join(e[2:-1]) if e[2] == 'no' else ' '.join(e[2:])
+                      for e in words if e[0] == 'lay')
+    print('layings:', ', '.join('%s x%d' % (n, layings[n]) for n in sorted(layings)))
+
+
+def show(expect, streams, i):
+    """The lines that led to an answer: for a label or a laying the two drawings too."""
+    if not expect[i].startswith('check'):
+        for k in [k for k in range(i) if expect[k].startswith('check 0 ')][-2:]:
+            sys.stdout.write(''.join(streams[k]))
+    sys.stdout.write(''.join(streams[i]))
+
+
 def main(directory):
-    expect = [line.split() for line in open(directory + '/expect')]
+    expect = open(directory + '/expect').read().splitlines()
     output = [line for line in open(directory + '/output', errors='replace')
-              if line.startswith('check ')]
-    got = [line.split()[:3] for line in output]
-    streams = list(drawings(directory + '/stream'))
+              if word(line) in ANSWERED]
+    streams = list(parts(directory + '/stream'))
     assert len(streams) == len(expect)
-    count = Counter(int(e[1]) for e in expect)
-    print('expected:', ', '.join('%d x%d' % (n, count[n]) for n in sorted(count)))
-    print('3 at place 0: %d times' % sum(e == ['check', '3', '0'] for e in expect))
-    wrong = [i for i in range(min(len(got), len(expect))) if got[i] != expect[i]]
+    counted(expect)
+    wrong = [i for i in range(min(len(output), len(expect))) if not agrees(expect[i], output[i])]
     fault = False
-    if len(got) != len(expect):
+    if len(output) != len(expect):
         fault = True
-        print('%d drawings, but %d lines that begin with check' % (len(expect), len(got)))
+        print('%d answers expected, and %d came' % (len(expect), len(output)))
         sys.stdout.write(''.join('    ' + line for line in
                                  list(open(directory + '/errors', errors='replace'))[-10:]))
-        if len(got) < len(expect) and not wrong:
-            print('the first drawing without an answer is drawing %d:' % (len(got) + 1))
-            sys.stdout.write(''.join(streams[len(got)][:2000]))
+        if len(output) < len(expect) and not wrong:
+            print('the first without an answer is number %d:' % (len(output) + 1))
+            sys.stdout.write(''.join(streams[len(output)][:2000]))
     if wrong:
         fault = True
-        kinds = Counter((expect[i][1], got[i][1] if len(got[i]) > 1 else '?') for i in wrong)
-        print('%d of %d drawings differ' % (len(wrong), len(expect)))
+        kinds = Counter((' '.join(expect[i].split()[:2]), ' '.join(output[i].split()[:2])) for i in wrong)
+        print('%d of %d answers differ' % (len(wrong), len(expect)))
         for (e, g), n in kinds.most_common():
             print('    expected %s, got %s: %d times' % (e, g, n))
-        i = min(wrong, key=lambda i: sum(line[0] in 'pcf' for line in streams[i]))
-        print('the smallest that differs is drawing %d: expected "%s", got "%s"'
-              % (i + 1, ' '.join(expect[i]), output[i].rstrip('\n')))
-        sys.stdout.write(''.join(streams[i]))
+        i = min(wrong, key=lambda i: len(streams[i]))
+        print('the smallest that differs is answer %d: expected "%s", got "%s"'
+              % (i + 1, expect[i], output[i].rstrip('\n')))
+        show(expect, streams, i)
     if not fault:
-        print('all %d drawings agree' % len(expect))
+        drawings = sum(line.startswith('check') for line in expect)
+        print('all %d drawings and %d labels and layings agree' % (drawings, len(expect) - drawings))
     return 1 if fault else 0
 
 

@@ -1,16 +1,16 @@
 #!/usr/bin/env python3
 """make.py SEED COUNT [--expect FILE]: a stream of COUNT drawings on standard
-output, and the expected `check NUMBER PLACE` lines in FILE.
+output, some with label lines and layings after them, and the expected words
+for programs of each answer in FILE.
 make.py --sample [--expect FILE]: the short sample with comments."""
 import argparse
 import random
 import sys
 
-from oracle import verdict
+from laying import Block, Session, answers
 from shapes import (BOX_FACES, Degenerate, LIMIT, WEDGE_FACES, bipyramid_of, convex_polygon, fits,
                     placed, prism_of, shape, wild)
-
-HUGE = 18446744073709551615
+from trials import HUGE, images_for, kind_of, label_number, second, walked
 FAR = [9223372036854775807, -9223372036854775808]
 
 
@@ -612,6 +612,89 @@ def text(rng, t, number):
     return lines
 
 
+# ------------------------------------------------- a stream
+def mixed(rng, first, more):
+    """Both lists of lines, each in its order."""
+    which = [0] * len(first) + [1] * len(more)
+    rng.shuffle(which)
+    heads = iter(first), iter(more)
+    return [next(heads[k]) for k in which]
+
+
+class Story:
+    """Drawings, labels and layings one after another, with the answers to expect."""
+
+    def __init__(self, rng):
+        self.rng = rng
+        self.session = Session()
+        self.number = 0
+        self.lines = []
+        self.expected = []
+
+    def draw(self, t, images=()):
+        """A drawing with its check, and images before, among or after its lines."""
+        self.number += 1
+        lines = text(self.rng, t, self.number)
+        hand = ['i %d' % g for g in images]
+        r = self.rng.random()
+        if r < 0.1:
+            lines = hand + lines
+        elif r < 0.2:
+            lines = mixed(self.rng, hand, lines)
+        else:
+            lines = lines + hand
+        self.session.images += images
+        self.lines += lines
+        self.expected.append(self.session.check(*t))
+        return self.expected[-1].startswith('check 0 ')
+
+    def label(self):
+        e = label_number(self.rng, self.session.last)
+        self.lines.append('label %d' % e)
+        self.expected.append(self.session.label(e))
+
+    def lay(self, kind):
+        self.lines.append('lay ' + kind)
+        self.expected.append(self.session.lay(kind))
+
+    def lay_again(self, known):
+        """Images for the last two sound drawings, now and then with some left from before."""
+        kind = kind_of(self.rng)
+        images = images_for(self.rng, kind, self.session.before, self.session.last, known)
+        self.session.images += images
+        self.lines += ['i %d' % g for g in images]
+        if self.rng.random() < 0.97:
+            self.lay(kind if self.rng.random() < 0.8 else kind_of(self.rng))
+
+    def pair(self, t):
+        """A second drawing after the sound drawing t, and layings of t onto it."""
+        s, known = second(self.rng, t)
+        kind = kind_of(self.rng)
+        self.draw(s, images_for(self.rng, kind, self.session.last, Block(*s), known))
+        self.lay(kind)
+        while self.rng.random() < 0.5:
+            self.lay_again(known)
+
+    def tell(self, count):
+        self.label()
+        self.session.images.append(1)
+        self.lines.append('i 1')
+        self.lay('both')
+        while self.number < count:
+            t = drawing(self.rng)
+            sound = self.draw(t)
+            while self.rng.random() < (0.5 if sound else 0.1):
+                self.label()
+            if not sound:
+                continue
+            if self.session.before is None:
+                self.lay('measure')
+            if self.number < count and self.rng.random() < 0.7:
+                self.pair(t)
+            elif self.session.before and self.rng.random() < 0.6:
+                self.lay_again(None)
+
+
 # ------------------------------------------------- the sample
 BOX = [(0, 0, 0), (10, 0, 0), (10, 20, 0), (0, 20, 0),
        (0, 0, 30), (10, 0, 30), (10, 20, 30), (0, 20, 30)]
@@ -629,10 +712,25 @@ def plain(points, faces):
 
 
 def sample():
-    """Pairs of a remark and the tables it speaks of."""
+    """A remark, the tables it speaks of, and the lines after their check."""
+    box, wedge = plain(BOX, BOX_FACES), plain(WEDGE, WEDGE_FACES)
+    each = ['i %d' % e for e in range(1, 25)]
+    turn = ['i %d' % g for g in walked(Block(*box), Block(*box), 2)]
+    result = [('A sound box, 10 x 20 x 30.', box,
+               ['label 1', '', '# The box has the edges 1 to 24.', 'label 25']),
+              ('The box once more: each edge lies on itself.', box,
+               each + ['lay both', '', '# A quarter turn of the box about its height: an edge of 20 lies on one of 10.']
+               + turn + ['lay measure', '', '# All marks of the box are 0, so that its marks stand the turn.']
+               + turn + ['lay mark']),
+              ('A sound wedge, which has fewer edges than the box.', wedge,
+               ['label 10'] + each + ['lay measure'])]
+    return result + [(remark, t, []) for remark, t in refused_sample()]
+
+
+def refused_sample():
+    """Pairs of a remark and tables that are refused, one for each check."""
     w = WEDGE_FACES
-    result = [('A sound box, 10 x 20 x 30.', plain(BOX, BOX_FACES)),
-              ('A sound wedge.', plain(WEDGE, w))]
+    result = []
     result.append(('A wedge whose fourth face is missing: three faces are too few.',
                    plain(WEDGE, w[:3])))
     result.append(('A wedge whose point 4 lies too high.', plain(WEDGE[:3] + [(0, 0, 8001)], w)))
@@ -665,19 +763,17 @@ def sample():
     return result
 
 
-def write_sample(out, expect):
-    for n, (remark, t) in enumerate(sample()):
-        if n:
-            out.write('\n')
-        for line in remark.split('\n'):
-            out.write('# %s\n' % line)
+def sample_lines():
+    lines = []
+    for n, (remark, t, after) in enumerate(sample()):
+        lines += [''] if n else []
+        lines += ['# ' + line for line in remark.split('\n')]
         points, corners, faces = t
-        out.write(''.join('p %d %d %d\n' % p for p in points))
-        out.write(''.join('c %d %d %d\n' % c for c in corners))
-        out.write(''.join('f %d\n' % f for f in faces))
-        out.write('check\n')
-        if expect:
-            expect.write('check %d %d\n' % verdict(*t))
+        lines += ['p %d %d %d' % p for p in points]
+        lines += ['c %d %d %d' % c for c in corners]
+        lines += ['f %d' % f for f in faces]
+        lines += ['check'] + after
+    return lines
 
 
 def main():
@@ -687,16 +783,17 @@ def main():
     parser.add_argument('--expect')
     parser.add_argument('--sample', action='store_true')
     options = parser.parse_args()
-    expect = open(options.expect, 'w') if options.expect else None
     if options.sample:
-        write_sample(sys.stdout, expect)
-        return
-    rng = random.Random(options.seed)
-    for number in range(1, options.count + 1):
-        t = drawing(rng)
-        sys.stdout.write('\n'.join(text(rng, t, number)) + '\n')
-        if expect:
-            expect.write('check %d %d\n' % verdict(*t))
+        lines = sample_lines()
+        expected = list(answers(lines))
+    else:
+        story = Story(random.Random(options.seed))
+        story.tell(options.count)
+        lines, expected = story.lines, story.expected
+    sys.stdout.write('\n'.join(lines) + '\n')
+    if options.expect:
+        with open(options.expect, 'w') as expect:
+            expect.write('\n'.join(expected) + '\n')
 
 
 if __name__ == '__main__':

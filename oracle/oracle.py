@@ -6,12 +6,7 @@ verdict(points, corners, faces) -> (number, place), or (0, edges) when sound.
   corners: list of (point, mark, next)
   faces:   list of first corner
 All numbering in the tables is from 1.
-
-As a program: reads a stream (p, c, f, check lines) on standard input and
-prints one `check NUMBER PLACE` line for each drawing.
 """
-import sys
-
 RANGE_POINTS = (4, 160)
 RANGE_FACES = (4, 160)
 RANGE_CORNERS = (12, 480)
@@ -136,30 +131,3 @@ def verdict(points, corners, faces):
     if total <= 0:
         return 12, 0
     return 0, len(corners)
-
-
-def read(lines):
-    """The drawings of a stream, as (points, corners, faces)."""
-    points, corners, faces = [], [], []
-    for number, line in enumerate(lines, 1):
-        line = line.rstrip('\n')
-        if line == '' or line.startswith('#'):
-            continue
-        word, *rest = line.split(' ')
-        values = tuple(int(x) for x in rest)
-        if word == 'p' and len(values) == 3:
-            points.append(values)
-        elif word == 'c' and len(values) == 3:
-            corners.append(values)
-        elif word == 'f' and len(values) == 1:
-            faces.append(values[0])
-        elif word == 'check' and not values:
-            yield points, corners, faces
-            points, corners, faces = [], [], []
-        else:
-            raise SystemExit('line %d: %r' % (number, line))
-
-
-if __name__ == '__main__':
-    for drawing in read(sys.stdin):
-        print('check %d %d' % verdict(*drawing))

@@ -5,8 +5,10 @@ import random
 import sys
 from collections import Counter
 
+import laying
 import make
 import oracle
+from laying import Block
 from make import BOX, BOX_FACES, WEDGE, WEDGE_FACES, plain
 from oracle import verdict
 
@@ -28,8 +30,11 @@ def examples():
     other = [[name[i] for i in f] for f in WEDGE_FACES]
     is_(plain(twice, WEDGE_FACES + other), 8, 1)
     is_(plain(twice, WEDGE_FACES + [f[::-1] for f in other]), 8, 1)
-    numbers = [verdict(*t)[0] for _, t in make.sample()]
-    assert numbers == [0, 0] + list(range(1, 13)), numbers
+    numbers = [verdict(*t)[0] for _, t, _ in make.sample()]
+    assert numbers == [0, 0, 0] + list(range(1, 13)), numbers
+    box, wedge = Block(*plain(BOX, BOX_FACES)), Block(*plain(WEDGE, WEDGE_FACES))
+    assert box.measure(1) == (400, 0, -400, 0, 0, -6000)
+    assert wedge.measure(10) == (500, -400, -100, 100, 0, -6000)
 
 
 def other_way(points, corners, faces):
@@ -170,6 +175,99 @@ def faulty(drawings, right):
     print('%d faulty oracles, %d not told apart' % (len(variants), weak))
 
 
+def congruent(a, b, images):
+    """A laying by its points: edges keep their ends and faces, points their distances and side."""
+    if sorted(images) != list(range(1, b.n + 1)) or a.n != b.n:
+        return False
+    to = {}
+    for e, g in enumerate(images, 1):
+        for p, q in zip(a.ends[e], b.ends[g]):
+            if to.setdefault(p, q) != q:
+                return False
+    home = {}
+    for e in b.after:
+        if e not in home:
+            k = e
+            while k not in home:
+                home[k] = e
+                k = b.after[k]
+    if any(home[images[e - 1]] != home[images[a.after[e] - 1]] for e in a.after):
+        return False
+    here = {p: a.points[p - 1] for p in to}
+    there = {p: b.points[q - 1] for p, q in to.items()}
+    apart = lambda at, p, q: sum(x * x for x in oracle.minus(at[p], at[q]))
+    side = lambda at, p, q, r, s: oracle.vol(*(oracle.minus(at[x], at[p]) for x in (q, r, s)))
+    p, q = a.ends[1]
+    r = a.ends[a.after[1]][1]
+    return (len(set(to.values())) == len(to)
+            and all(apart(here, x, y) == apart(there, x, y) for x in to for y in to)
+            and all(side(here, p, q, r, s) == side(there, p, q, r, s) for s in to))
+
+
+class Checked(laying.Session):
+    """A session whose layings are tried by their points too."""
+    seen = Counter()
+
+    def lay(self, kind):
+        if self.before:
+            right = laying.first_flaw('measure', self.before, self.last, self.images) is None
+            assert right == congruent(self.before, self.last, self.images)
+            self.seen[right] += 1
+        return super().lay(kind)
+
+
+LAYING_FAULTS = [
+    ('        return \'length\', 0', '        return \'length\', 1'),
+    ('image[e] == 0 or ', ''), (' or image[e] > b.n', ''), ('image[e] > b.n', 'image[e] > a.n'),
+    ('image[e] > b.n', 'image[e] > b.n + 1'), ('image[e] > b.n', 'image[e] >= b.n'),
+    ('return \'twice\', e', 'return \'twice\', images.index(image[e]) + 1'),
+    ('return \'missed\', g', 'return \'missed\', a.n'),
+    ('image[a.after[e]] != b.after[image[e]]', 'image[a.after[e]] != image[e]'),
+    ('image[a.after[e]] != b.after[image[e]]', 'False'),
+    ('image[a.opposite[e]] != b.opposite[image[e]]', 'False'),
+    ('a.label(kind, e) != b.label(kind, image[e])', 'False'),
+    ('a.label(kind, e) != b.label(kind, image[e])', 'a.label(kind, e) != b.label(kind, e)'),
+    ('self.before, self.last = self.last, Block', 'self.last, self.before = self.last, Block'),
+    ('if answer[0] == 0:', 'if True:'), ('images, self.images = self.images, []', 'images = self.images'),
+    ('1 <= e <= self.last.n', '0 <= e <= self.last.n'), ('1 <= e <= self.last.n', '1 <= e < self.last.n'),
+    ('first_flaw(kind, self.before, self.last, images)', 'first_flaw(kind, self.last, self.before, images)'),
+    ('self.last.measure(e)', '(self.before or self.last).measure(min(e, (self.before or self.last).n))'),
+    ('dot(v[e], v[e])', 'dot(v[b], v[b])'), ('dot(v[e], v[b])', 'dot(v[b2], v[b])'),
+    ('dot(v[e], v[b2])', 'dot(v[b], v[b2])'), ('dot(v[e], v[c])', 'dot(v[b2], v[c])'),
+    ('dot(v[b], v[c])', 'dot(v[b2], v[c])'), ('vol(v[e], v[b], v[c])', 'vol(v[b], v[e], v[c])'),
+    ('vol(v[e], v[b], v[c])', 'abs(vol(v[e], v[b], v[c]))'),
+    ('after[opposite[e]]', 'opposite[after[e]]'),
+    ('return self.measure(e), self.mark[e]', 'return self.measure(e)'),
+    ('return self.measure(e), self.mark[e]', 'return self.mark[e]'),
+]
+
+
+def faulty_layings(lines, expected):
+    source = open(laying.__file__).read()
+    weak = 0
+    for old, new in LAYING_FAULTS:
+        assert old in source, old
+        space = {'__name__': 'faulty'}
+        exec(compile(source.replace(old, new, 1), old, 'exec'), space)
+        differ = 0
+        try:
+            differ = sum(x != y for x, y in zip(space['answers'](lines), expected))
+        except (KeyError, IndexError):
+            differ += 1
+        weak += differ == 0
+        print('%6d %r -> %r' % (differ, old, new))
+    print('%d faulty layings, %d not told apart' % (len(LAYING_FAULTS), weak))
+
+
+def layings(seed, count):
+    story = make.Story(random.Random(seed))
+    story.session = Checked()
+    story.tell(count)
+    print('by points: %d layings, %d of them congruences' % (sum(Checked.seen.values()), Checked.seen[True]))
+    assert list(laying.answers(story.lines)) == story.expected
+    faulty_layings(story.lines, story.expected)
+
+
 if __name__ == '__main__':
     examples()
     print('examples: right')
@@ -182,3 +280,4 @@ if __name__ == '__main__':
     print('other way: %d drawings agree; sound ones by Euler number %s; volume just 0: %d'
           % (count, dict(ORIENT), ZERO[0]))
     faulty(drawings, [verdict(*t) for t in drawings])
+    layings(seed, count)

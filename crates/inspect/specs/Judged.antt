@@ -1,12 +1,17 @@
--- The answer to a drawing.
-use mathlib.Core.Path.{_≡_}
-use lib.ListN.{length}
-use Rattle.drawing.specs.Verdicts as verdict
-use Rattle.drawing.specs.Verdicts.{Tables}
-use Rattle.lines.specs.declared.answer.Answer.{Answer}
-use Rattle.lines.specs.declared.answer.Answer.the-variants.{Sound, Refused}
+-- The verdict on a drawing.
+use Rattle.std.specs.declared.result.Result.{Result}
+use Rattle.std.specs.declared.result.Result.the-variants.{Ok, Err}
+use Rattle.drawing.specs.declared.fault.Fault.{Fault}
+use Rattle.drawing.specs.Verdicts.{Tables, Sound, Refused, Draws}
+use Rattle.block.specs.declared.body.Block.{Block}
+use Rattle.block.specs.Views.{view}
 
--- Sound, with as many edges as there are corners; or the first check that fails, with its place.
-abbrev pub Judged : Tables → Answer → Type 0
-Judged t (Sound n) = verdict.Sound t × (n ≡ length (t .corners))
-Judged t (Refused f) = verdict.Refused t f
+-- The drawing is sound, and the block is the one that it draws.
+pub record Drawn (t : Tables) (b : Block) : Type 0 where
+  pub sound : Sound t
+  pub draws : Draws t (view b)
+
+-- A block that the drawing draws, where it is sound; or the first check that fails, with its place.
+abbrev pub Judged : Tables → Result Block Fault → Type 0
+Judged t (Ok b) = Drawn t b
+Judged t (Err f) = Refused t f

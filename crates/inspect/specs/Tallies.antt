@@ -1,7 +1,7 @@
 -- How many drawings were judged.
 use Prim.Native.Nat.{ℕ, _+_, _-_, _^_, min}
-use Rattle.lines.specs.declared.answer.Answer.{Answer}
-use Rattle.lines.specs.declared.answer.Answer.the-variants.{Sound, Refused}
+use Rattle.replies.specs.declared.answer.Answer.{Answer}
+use Rattle.replies.specs.declared.answer.Answer.the-variants.{Sound, Refused}
 use Rattle.inspect.specs.declared.tally.Tally.{Tally}
 
 -- one more, as far as the number goes

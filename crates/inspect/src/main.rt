@@ -1,4 +1,6 @@
-//! Reads drawings from standard input, and says of each whether it is sound, or what is wrong with it and where.
+//! Reads drawings from standard input, and says of each whether it is sound, or what is wrong with it and where; what an edge of
+//! the last sound one measures, and whether the last but one lies on it.
+mod reply;
 mod session;
 mod stop;
 mod tables;

@@ -3,14 +3,14 @@ ghost use mathlib.Core.Path.{_≡_};
 ghost use mathlib.Core.List.{[]};
 ghost use mathlib.Core.Bool.{_&&_};
 ghost use lib.Dec.{eqb};
-ghost use Rattle.std.specs.Of.Vec.{vec-len, vec-items};
-ghost use Rattle.drawing.specs.Verdicts.{tables};
-ghost use Rattle.inspect.specs.Following.{Holds};
+ghost use Rattle.std.specs.Of.Vec.{vec-len};
+ghost use Rattle.inspect.specs.Following.{Holds, drawing};
 ghost use Rattle.inspect.specs.Judged.{Judged};
+use block::Block;
 use block::check;
+use drawing::fault::Fault;
 use drawing::record::Corner;
 use drawing::record::Face;
-use lines::answer::Answer;
 use solid::Point;
 use std::alloc::Global;
 
@@ -46,17 +46,14 @@ impl Tables {
         self.points.is_empty() && self.corners.is_empty() && self.faces.is_empty()
     }
 
-    /// The verdict of the drawing checks.
-    pub(crate) fn judge(&self) -> Answer
-        ensures { λ r. ⌜ Judged (tables (vec-items (now (self .entry) .points)) (vec-items (now (self .entry) .corners)) (vec-items (now (self .entry) .faces))) r ⌝ }
+    /// The verdict of the drawing checks: the block, or the refusal.
+    pub(crate) fn judge(&self) -> Result<Block, Fault>
+        ensures { λ r. ⌜ Judged (drawing (now (self .entry))) r ⌝ }
     {
-        match check(
+        check(
             self.points.as_slice(),
             self.corners.as_slice(),
             self.faces.as_slice(),
-        ) {
-            Ok(block) => Answer::Sound(block.edge_count()),
-            Err(fault) => Answer::Refused(fault),
-        }
+        )
     }
 }

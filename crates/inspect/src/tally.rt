@@ -1,7 +1,7 @@
 // How many drawings were judged.
 ghost use mathlib.Core.Path.{_≡_};
 ghost use Rattle.inspect.specs.Tallies.{counted};
-use lines::answer::Answer;
+use replies::answer::Answer;
 
 #[derive(Clone, Copy)]
 pub struct Tally {

@@ -3,6 +3,7 @@ use mathlib.Core.Path.{_≡_, refl}
 use lib.Chars.{codes}
 use lib.IntN.{pos, negsuc}
 use Rattle.std.specs.declared.result.Result.the-variants.{Ok, Err}
+use Rattle.lines.specs.declared.kind.KindName.the-variants as kind
 use Rattle.lines.specs.declared.line.Line.the-variants as line
 use Rattle.lines.specs.declared.line.Malformed.the-variants as malformed
 use Rattle.lines.specs.Lines.{lineOf}
@@ -18,6 +19,18 @@ face-line = refl
 
 check-line : lineOf (codes "check ") ≡ Ok line.Check
 check-line = refl
+
+label-line : lineOf (codes "label 25") ≡ Ok (line.Label 25)
+label-line = refl
+
+image-line : lineOf (codes "i 18446744073709551615") ≡ Ok (line.Image 18446744073709551615)
+image-line = refl
+
+lay-line : lineOf (codes "lay both") ≡ Ok (line.Lay kind.Both)
+lay-line = refl
+
+other-kind : lineOf (codes "lay Mark") ≡ Err malformed.LayFields
+other-kind = refl
 
 remark-line : lineOf (codes "# p 1 2") ≡ Ok line.Blank
 remark-line = refl

@@ -1,5 +1,4 @@
 pub mod Words
 pub mod Numbers
+pub mod Kinds
 pub mod Lines
-pub mod Advice
-pub mod Answers

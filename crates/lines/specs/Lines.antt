@@ -14,6 +14,7 @@ use Rattle.std.specs.shelf.Text.{sameBytes}
 use Rattle.solid.specs.declared.Point.{Point}
 use Rattle.drawing.specs.declared.record.Corner.{Corner}
 use Rattle.drawing.specs.declared.record.Face.{Face}
+use Rattle.lines.specs.declared.kind.KindName.{KindName}
 use Rattle.lines.specs.declared.line.Line.{Line}
 use Rattle.lines.specs.declared.line.Line.the-variants as line
 use Rattle.lines.specs.declared.line.Malformed.{Malformed}
@@ -22,6 +23,7 @@ use Rattle.lines.specs.declared.reading.Command.{Command}
 use Rattle.lines.specs.declared.reading.Command.the-variants as command
 use Rattle.lines.specs.Words.{words}
 use Rattle.lines.specs.Numbers.{unsigned, signed}
+use Rattle.lines.specs.Kinds.{kindOf}
 
 -- what each kind of field holds
 abbrev pub coordinate : List ℕ → Option ℤ
@@ -78,6 +80,14 @@ abbrev pub checkFields : List (List ℕ) → Option Line
 checkFields [] = Some line.Check
 checkFields (w ∷ ws) = None
 
+-- one number, and nothing after it
+abbrev pub numberField : List (List ℕ) → Option ℕ
+numberField ws = one index ws
+
+-- one name of a kind, and nothing after it
+abbrev pub kindField : List (List ℕ) → Option KindName
+kindField ws = one kindOf ws
+
 -- the line has no words, or it is a remark
 abbrev pub remark : List ℕ → Bool
 remark [] = true
@@ -90,7 +100,10 @@ commandOf w =
     (cond (sameBytes w (codes "p")) command.Point
     (cond (sameBytes w (codes "c")) command.Corner
     (cond (sameBytes w (codes "f")) command.Face
-    (cond (sameBytes w (codes "check")) command.Check command.Unknown))))
+    (cond (sameBytes w (codes "check")) command.Check
+    (cond (sameBytes w (codes "label")) command.Label
+    (cond (sameBytes w (codes "i")) command.Image
+    (cond (sameBytes w (codes "lay")) command.Lay command.Unknown)))))))
 
 -- the line that a command and its fields make
 abbrev pub sentence : Command → List (List ℕ) → Result Line Malformed
@@ -99,6 +112,9 @@ sentence command.Point ws = okOr (mapped line.Point (pointFields ws)) malformed.
 sentence command.Corner ws = okOr (mapped line.Corner (cornerFields ws)) malformed.CornerFields
 sentence command.Face ws = okOr (mapped line.Face (faceFields ws)) malformed.FaceFields
 sentence command.Check ws = okOr (checkFields ws) malformed.CheckFields
+sentence command.Label ws = okOr (mapped line.Label (numberField ws)) malformed.LabelFields
+sentence command.Image ws = okOr (mapped line.Image (numberField ws)) malformed.ImageFields
+sentence command.Lay ws = okOr (mapped line.Lay (kindField ws)) malformed.LayFields
 sentence command.Unknown ws = Err malformed.Command
 
 abbrev pub lineOfWords : List (List ℕ) → Result Line Malformed

@@ -1,6 +1,5 @@
-//! The lines that a drafter writes, and the words that the drafter gets back.
-pub mod advice;
-pub mod answer;
+//! The lines that a drafter writes.
+pub mod kind;
 pub mod line;
 mod number;
 pub mod reading;

@@ -1,4 +1,5 @@
 // What a line says.
+use crate::kind::KindName;
 use drawing::record::Corner;
 use drawing::record::Face;
 use solid::Point;
@@ -11,6 +12,12 @@ pub enum Line {
     Corner(Corner),
     Face(Face),
     Check,
+    /// what the edge of this number measures
+    Label(usize),
+    /// the number of the image of one edge more
+    Image(usize),
+    /// whether the images are a pairing under this kind
+    Lay(KindName),
     /// an empty line or a remark
     Blank,
 }
@@ -23,13 +30,16 @@ pub enum Malformed {
     CornerFields,
     FaceFields,
     CheckFields,
+    LabelFields,
+    ImageFields,
+    LayFields,
 }
 
 pub impl fmt::Display for Malformed as MalformedDisplay {
     fn fmt<W: fmt::Write>(&self, f: &mut fmt::Formatter<W>) -> fmt::Result {
         match self {
             Malformed::Command => f.write_str(
-                "expected a line that begins with p, c, f, check or #",
+                "expected a line that begins with p, c, f, check, label, i, lay or #",
             ),
             Malformed::PointFields => f.write_str(
                 "expected p X Y Z with whole numbers of 64 bits, signed",
@@ -39,6 +49,15 @@ pub impl fmt::Display for Malformed as MalformedDisplay {
             ),
             Malformed::FaceFields => f.write_str("expected f FIRST with a whole number of 64 bits"),
             Malformed::CheckFields => f.write_str("expected check with nothing after it"),
+            Malformed::LabelFields => f.write_str(
+                "expected label EDGE with a whole number of 64 bits",
+            ),
+            Malformed::ImageFields => f.write_str(
+                "expected i IMAGE with a whole number of 64 bits",
+            ),
+            Malformed::LayFields => f.write_str(
+                "expected lay KIND with KIND measure, mark or both",
+            ),
         }
     }
 }

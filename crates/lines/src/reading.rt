@@ -1,8 +1,10 @@
 // What a line says.
 ghost use mathlib.Core.Path.{_≡_};
 ghost use Rattle.lines.specs.Words.{words};
-ghost use Rattle.lines.specs.Lines.{pointFields, cornerFields, faceFields, checkFields, remark, commandOf, lineOf};
+ghost use Rattle.lines.specs.Kinds.{kindOf};
+ghost use Rattle.lines.specs.Lines.{pointFields, cornerFields, faceFields, checkFields, numberField, kindField, remark, commandOf, lineOf};
 ghost use Rattle.std.specs.shelf.Text.{sameBytes};
+use crate::kind::KindName;
 use crate::line::Line;
 use crate::line::Malformed;
 use crate::number::coordinate;
@@ -71,6 +73,42 @@ fn check_fields(text: &[u8]) -> Option<Line>
     }
 }
 
+fn number_field(text: &[u8]) -> Option<usize>
+    ensures { λ r. ⌜ r ≡ numberField (words (now (text .entry))) ⌝ }
+{
+    let (number, rest) = split_word(text);
+    let (more, _) = split_word(rest);
+    if !more.is_empty() {
+        return None;
+    }
+    index(number)
+}
+
+fn kind_name(word: &[u8]) -> Option<KindName>
+    ensures { λ r. ⌜ r ≡ kindOf (now (word .entry)) ⌝ }
+{
+    if same(word, b"measure") {
+        Some(KindName::Measure)
+    } else if same(word, b"mark") {
+        Some(KindName::Mark)
+    } else if same(word, b"both") {
+        Some(KindName::Both)
+    } else {
+        None
+    }
+}
+
+fn kind_field(text: &[u8]) -> Option<KindName>
+    ensures { λ r. ⌜ r ≡ kindField (words (now (text .entry))) ⌝ }
+{
+    let (name, rest) = split_word(text);
+    let (more, _) = split_word(rest);
+    if !more.is_empty() {
+        return None;
+    }
+    kind_name(name)
+}
+
 /// What the first word of a line asks for.
 #[derive(Clone, Copy)]
 enum Command {
@@ -79,6 +117,9 @@ enum Command {
     Corner,
     Face,
     Check,
+    Label,
+    Image,
+    Lay,
     Unknown,
 }
 
@@ -108,6 +149,12 @@ fn read_command(word: &[u8]) -> Command
         Command::Face
     } else if same(word, b"check") {
         Command::Check
+    } else if same(word, b"label") {
+        Command::Label
+    } else if same(word, b"i") {
+        Command::Image
+    } else if same(word, b"lay") {
+        Command::Lay
     } else {
         Command::Unknown
     }
@@ -124,6 +171,9 @@ pub fn read_line(text: &[u8]) -> Result<Line, Malformed>
         Command::Corner => Ok(Line::Corner(corner_fields(fields).ok_or(Malformed::CornerFields)?)),
         Command::Face => Ok(Line::Face(face_fields(fields).ok_or(Malformed::FaceFields)?)),
         Command::Check => check_fields(fields).ok_or(Malformed::CheckFields),
+        Command::Label => Ok(Line::Label(number_field(fields).ok_or(Malformed::LabelFields)?)),
+        Command::Image => Ok(Line::Image(number_field(fields).ok_or(Malformed::ImageFields)?)),
+        Command::Lay => Ok(Line::Lay(kind_field(fields).ok_or(Malformed::LayFields)?)),
         Command::Unknown => Err(Malformed::Command),
     }
 }

@@ -1,6 +1,6 @@
 // The answer to a check, as it is written.
 ghost use Rattle.std.specs.declared.option.Option.the-variants.{Some};
-ghost use Rattle.lines.specs.Answers.{written};
+ghost use Rattle.replies.specs.Answers.{written};
 use drawing::fault::Fault;
 use std::fmt;
 

@@ -1,6 +1,6 @@
 // What people are told of a refusal: what is wrong, where, and what the drafter can do.
 ghost use mathlib.Core.Path.{_≡_};
-ghost use Rattle.lines.specs.Advice.{subjectOf};
+ghost use Rattle.replies.specs.Advice.{subjectOf};
 use drawing::fault::Cause;
 use drawing::fault::Fault;
 use std::fmt;

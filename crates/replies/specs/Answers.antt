@@ -4,8 +4,8 @@ use Prim.Native.Nat.{ℕ}
 use lib.Chars.{codes}
 use Rattle.std.specs.Written.{decimal}
 use Rattle.drawing.specs.Causes.{number}
-use Rattle.lines.specs.declared.answer.Answer.{Answer}
-use Rattle.lines.specs.declared.answer.Answer.the-variants.{Sound, Refused}
+use Rattle.replies.specs.declared.answer.Answer.{Answer}
+use Rattle.replies.specs.declared.answer.Answer.the-variants.{Sound, Refused}
 
 -- the number of the check that failed, and the place; or 0, and how many edges there are
 abbrev pub written : Answer → List ℕ

@@ -4,8 +4,8 @@ use lib.Dec.{eqb}
 use Rattle.drawing.specs.declared.fault.Cause.{Cause}
 use Rattle.drawing.specs.declared.fault.Cause.the-variants as cause
 use Rattle.drawing.specs.declared.fault.Fault.{Fault}
-use Rattle.lines.specs.declared.advice.Subject.{Subject}
-use Rattle.lines.specs.declared.advice.Subject.the-variants.{Drawing, Point, Corner, Face, Edge}
+use Rattle.replies.specs.declared.advice.Subject.{Subject}
+use Rattle.replies.specs.declared.advice.Subject.the-variants.{Drawing, Point, Corner, Face, Edge}
 
 -- the record that a cause speaks of
 abbrev pub record-of : Cause → Subject
