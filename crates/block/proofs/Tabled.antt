@@ -1,13 +1,12 @@
 -- What stands in the tables of a block at the index of an edge that it has.
 use mathlib.Core.Path.{_≡_, sym, _∙_, ap}
-use Prim.Native.Nat.{ℕ, suc, _<_, _≤_}
+use Prim.Native.Nat.{ℕ, suc, _<_}
 use native.Mathlib.Omega.{arith}
-use lib.ListN.{length, getD, take}
+use lib.ListN.{length, getD}
 use lib.Seq.{getD-take}
-use Rattle.solid.specs.declared.Point.{Point}
 use Rattle.solid.specs.Points.{Near}
 use Rattle.drawing.specs.Lists.{at}
-use Rattle.drawing.specs.Nets.{noPoint, edges, start, end, next, opposite, pointAt}
+use Rattle.drawing.specs.Nets.{noPoint, edges, start, next, opposite, pointAt}
 use Rattle.block.specs.declared.body.Block.{Block}
 use Rattle.block.specs.Views.{view}
 use Rattle.block.proofs.Laws.{known-order}

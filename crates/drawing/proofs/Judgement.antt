@@ -6,7 +6,6 @@ use Prim.Native.Nat.{ℕ, _+_, _<_, _≤_}
 use native.Mathlib.Omega.{arith}
 use lib.Dec.{eqb}
 use lib.ListN.{length}
-use Rattle.std.proofs.shelf.Tests.{cases-eq, cases-order}
 use Rattle.drawing.specs.declared.fault.Cause.{Cause}
 use Rattle.drawing.specs.declared.fault.Cause.the-variants.{TableCount, Coordinate, BrokenChain, PointNumber, LoosePoint, DoublePoint, UnmatchedEdge, PinchedPoint, UnreachedEdge, BentFace, LevelFaces, NoVolume}
 use Rattle.drawing.specs.declared.fault.Fault.{Fault}
@@ -17,6 +16,7 @@ use Rattle.drawing.specs.Verdicts.{Tables, Draws, Drawn, Fails, Passes, Refuse
 use Rattle.drawing.proofs.Following.{rounds-take}
 use Rattle.drawing.proofs.Linking.{linked-once, draws-once, edge-count}
 use Rattle.drawing.proofs.Lows.{lowest-once, none-lowest}
+use Rattle.drawing.proofs.Ranks as ranks
 
 -- the cause with a number
 causeAt : ℕ → Cause
@@ -59,18 +59,14 @@ number-range NoVolume = (omega arith, omega arith)
 
 -- the checks with a lower number pass
 abbrev pub Below : Tables → ℕ → Type 0
-Below t n = (c : Cause) → number c < n → Passes t c
+Below t n = ranks.Below number (Fails t) n
 
 module _ (t : Tables) where
   pub below-none : Below t 1
   below-none c lt = absurd (omega (arith, number-range c .0))
 
   pub below-more : (c : Cause) → Below t (number c) → Passes t c → Below t (number c + 1)
-  below-more c b h d lt =
-      elim (cases-eq (number d) (number c)) [
-        | inl e ↦ subst (λ (x : Cause). Passes t x) (sym (number-once d c e)) h
-        | inr ne ↦ b d (omega arith)
-      ]
+  below-more = ranks.below-more number (Fails t) number-once
 
   pub sound-below : Below t 13 → Sound t
   sound-below b c = b c (number-range c .1)
@@ -121,16 +117,8 @@ module _ (t : Tables) where
 
   pub refused-once : (f g : Fault) → Refused t f → Refused t g → f ≡ g
   refused-once f g a b =
-      elim (cases-order (number (f .cause)) (number (g .cause))) [
-        | inl e ↦
-            let same = number-once (f .cause) (g .cause) e in
-            let place = fails-once (f .cause) (a .earlier) (f .place) (g .place) (a .fails) (subst (λ (x : Cause). Fails t x (g .place)) (sym same) (b .fails)) in
-            λ i. record { cause = same i; place = place i }
-        | inr h ↦ elim h [
-          | inl lt ↦ absurd (b .earlier (f .cause) lt (f .place) (a .fails))
-          | inr gt ↦ absurd (a .earlier (g .cause) gt (g .place) (b .fails))
-        ]
-      ]
+      let one = ranks.first-once number (Fails t) number-once (f .cause) (g .cause) (f .place) (g .place) (a .earlier) (a .fails) (b .earlier) (b .fails) (fails-once (f .cause) (a .earlier)) in
+      λ i. record { cause = one .0 i; place = one .1 i }
 
   pub sound-not-refused : (f : Fault) → Sound t → Refused t f → ⊥
   sound-not-refused f s r = s (f .cause) (f .place) (r .fails)

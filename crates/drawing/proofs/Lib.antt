@@ -5,3 +5,4 @@ pub mod Lows
 pub mod Passing
 pub mod Judgement
 pub mod Copying
+pub mod Ranks

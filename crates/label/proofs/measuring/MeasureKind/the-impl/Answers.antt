@@ -1,4 +1,4 @@
-use mathlib.Core.Path.{sym, _∙_, subst}
+use mathlib.Core.Path.{subst}
 use lib.Dec.{T}
 use Rattle.label.specs.declared.measures.Measures.{Measures}
 use Rattle.label.specs.Measured.{measure}
