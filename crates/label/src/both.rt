@@ -10,7 +10,7 @@ pub struct Labels<X, Y> {
     pub second: Y,
 }
 
-/// The kind whose labels are the same where both halves are. A half may be a pair.
+/// The kind whose labels are the same where both halves are. A half may be a pair. No value of it is made: the fields name the halves.
 pub struct Pair<A, B> {
     first: A,
     second: B,
