@@ -35,13 +35,14 @@ pub record Ranged (x : Measures) : Type 0 where
   pub bc-range : natAbs (x .bc) ≤ greatestDot
   pub volume-range : natAbs (x .volume) ≤ greatestVolume
 
--- What the edge of this number, from 1, measures, exactly where the block has such an edge.
+-- The block has an edge of this number, from 1, and it measures x.
 pub record Found (m : Net) (number : ℕ) (x : Measures) : Type 0 where
   pub from-one : 1 ≤ number
   pub to-last : number ≤ edges m
   pub is : x ≡ measure m (number - 1)
   pub ranged : Ranged x
 
+-- What is answered of the edge of this number: what it measures, exactly where the block has it.
 abbrev pub Asked : Net → ℕ → Option Measures → Type 0
 Asked m number (Some x) = Found m number x
 Asked m number None = 1 ≤ number → number ≤ edges m → ⊥
