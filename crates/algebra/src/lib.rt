@@ -1,1 +1,2 @@
 //! Identities of integer polynomials, and bounds of machine arithmetic: proofs only.
+#![tactic(auto)]

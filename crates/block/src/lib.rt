@@ -1,4 +1,6 @@
 //! The checked block: a drawing that passed all twelve checks.
+#![tactic(auto)]
+
 pub mod body;
 
 pub use body::Block;

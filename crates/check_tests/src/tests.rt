@@ -1,4 +1,4 @@
-mod laying;
+mod layings;
 
 use block::{Block, check};
 use drawing::fault::{Cause, Fault};

@@ -1,3 +1,5 @@
 //! The entry records of a catalogue.
+#![tactic(auto)]
+
 pub mod record;
 pub mod register;

@@ -13,7 +13,7 @@ use Rattle.replies.specs.declared.measured.LabelAnswer.{LabelAnswer}
 use Rattle.replies.specs.declared.laid.LayAnswer.{LayAnswer}
 use Rattle.lines.specs.declared.line.Line.{Line}
 use Rattle.lines.specs.declared.line.Line.TheVariants as line
-use Rattle.inspect.specs.declared.tables.Tables.{Tables}
+use Rattle.inspect.specs.declared.in_hand.Tables.{Tables}
 use Rattle.inspect.specs.declared.session.Session.{Session}
 use Rattle.inspect.specs.declared.reply.Reply.{Reply}
 use Rattle.inspect.specs.declared.reply.Reply.TheVariants as reply

@@ -1,13 +1,16 @@
 //! Reads drawings from standard input, and says of each whether it is sound, or what is wrong with it and where; what an edge of
 //! the last sound one measures, and whether the last but one lies on it.
+#![tactic(auto)]
+
+mod in_hand;
 mod reply;
 mod session;
 mod stop;
-mod tables;
 mod tally;
 
 use session::Session;
 use std::io::BufReader;
+use std::process::ExitCode;
 use stop::Stop;
 
 /// Reads all lines and says what was done, also where a line stops it.
@@ -18,10 +21,12 @@ fn run(rt: &HostRuntime) -> Result<(), Stop> {
     end
 }
 
-fn main(rt: HostRuntime) -> Result<(), Stop> {
-    let end = run(&rt);
-    if let Err(stop) = &end {
-        eprintln!(rt; "{stop}")?;
+fn main(rt: HostRuntime) -> ExitCode {
+    match run(&rt) {
+        Ok(()) => ExitCode::SUCCESS,
+        Err(stop) => {
+            let _ = eprintln!(rt; "{stop}");
+            ExitCode::FAILURE
+        }
     }
-    end
 }

@@ -2,9 +2,9 @@
 ghost use Rattle.std.specs.Prelude.{◌≡◌, [], IfOk, None};
 ghost use Rattle.inspect.specs.Following.{Holds, Checks, Lays, Follows};
 
+use crate::in_hand::Tables;
 use crate::reply::Reply;
 use crate::stop::Stop;
-use crate::tables::Tables;
 use crate::tally::Tally;
 use kept::recent::Recent;
 use lines::kind::KindName;

@@ -1,4 +1,6 @@
 //! Lines read and answers written, by example.
+#![tactic(auto)]
+
 #[cfg(test)]
 mod tests {
     use drawing::fault::{Cause, Fault};

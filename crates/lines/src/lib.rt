@@ -1,4 +1,6 @@
 //! The lines that a drafter writes.
+#![tactic(auto)]
+
 pub mod kind;
 pub mod line;
 mod number;

@@ -1,5 +1,7 @@
 //! Points, vectors, the dot product and the signed volume.
 //! These functions are for the crates above: they ask that coordinates are small, which the drawing checks establish.
+#![tactic(auto)]
+
 ghost use Rattle.std.specs.Prelude.{◌≡◌, ◌≤◌, nat_abs};
 ghost use Rattle.solid.specs.Points.{Near, Far, between, place, dot, volume};
 ghost use Rattle.solid.specs.Limits.{greatest_dot, greatest_volume};

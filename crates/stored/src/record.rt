@@ -4,6 +4,7 @@ ghost use Rattle.drawing.specs.Nets.{edges};
 ghost use Rattle.block.specs.Views.{view};
 ghost use Rattle.stored.specs.Records.{blank_edge, Holds};
 
+use crate::blanking::Blank;
 use block::Block;
 use label::kind::Kind;
 use solid::Point;
@@ -25,8 +26,8 @@ pub struct Edge<L> {
 
 impl<L> Edge<L> {
     /// A record to fill a table with that is to be lent to a catalogue.
-    pub fn blank<K: Kind<Label = L>>() -> Self
-        ensures { result ≡ blank_edge K.Kind.blank }
+    pub fn blank<K: Kind<Label = L> + Blank>() -> Self
+        ensures { result ≡ blank_edge K.Blank.blank }
     {
         Edge {
             point: 0,

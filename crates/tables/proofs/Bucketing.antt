@@ -1,7 +1,9 @@
 -- The walk along a bucket, and the next point put into its bucket.
-use Rattle.std.proofs.Common.{◌≡◌, ℕ, ◌+◌, ◌-◌, ◌<◌, ◌≤◌, List, length, get_or, set, replicate, sym, ap, ◌∙◌, subst, inl, inr, arith, below_none, below_more}
+use Rattle.std.proofs.Common.{◌≡◌, ℕ, Bool, true, false, ◌&&◌, refl, ◌+◌, ◌-◌, ◌<◌, ◌≤◌, List, length, get_or, set, replicate, sym, ap, ◌∙◌, subst, inl, inr, arith, below_none, below_more}
 use Rattle.std.proofs.lemmas.List.{length-set, length-replicate, get_or-set_same, get_or-set_other, get_or-replicate}
-use Rattle.std.proofs.lemmas.Bool.{cases_eq, cases_lt}
+use Rattle.std.proofs.lemmas.Bool.{false≢true, true≢false, cases_eq, cases_lt}
+use Rattle.std.proofs.lemmas.Bool.Decides.{Decides-int_eq}
+use Rattle.std.specs.Ordering.{int_eq}
 use Rattle.solid.specs.declared.Point.{Point}
 use Rattle.drawing.specs.Lists.{at}
 use Rattle.drawing.specs.Nets.{no_point}
@@ -10,6 +12,23 @@ use Rattle.tables.specs.Buckets.{bucket_of, bucket_at, Last, LinkedTo, Heads}
 
 pub same_point : (a b : Point) → a.x ≡ b.x → a.y ≡ b.y → a.z ≡ b.z → a ≡ b
 same_point a b x y z = λ i. record { x = x i; y = y i; z = z i }
+
+-- what a comparison of two points answers
+both_hold : (x y : Bool) → true ≡ x && y → (x ≡ true) × (y ≡ true)
+both_hold true true e = (refl, refl)
+both_hold true false e = absurd (true≢false e)
+both_hold false y e = absurd (true≢false e)
+
+pub points_agree : (a b : Point) → true ≡ int_eq a.x b.x && (int_eq a.y b.y && int_eq a.z b.z) → a ≡ b
+points_agree a b e =
+    let p = both_hold (int_eq a.x b.x) (int_eq a.y b.y && int_eq a.z b.z) e in
+    let q = both_hold (int_eq a.y b.y) (int_eq a.z b.z) (sym p.1) in
+    same_point a b ((Decides-int_eq a.x b.x).0 p.0) ((Decides-int_eq a.y b.y).0 q.0) ((Decides-int_eq a.z b.z).0 q.1)
+
+pub points_differ : (a b : Point) → false ≡ int_eq a.x b.x && (int_eq a.y b.y && int_eq a.z b.z) → a ≡ b → ⊥
+points_differ a b e same = false≢true (
+    e ∙ rw ((Decides-int_eq a.x b.x).1 (ap (λ (q : Point). q.x) same), (Decides-int_eq a.y b.y).1 (ap (λ (q : Point). q.y) same), (Decides-int_eq a.z b.z).1 (ap (λ (q : Point). q.z) same)) refl
+    )
 
 -- No point from the number r on, and before p, has p's coordinates. The point with the number r, if any, is of p's bucket.
 pub record Walk (ps : List Point) (p r : ℕ) : Type 0 where

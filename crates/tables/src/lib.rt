@@ -1,4 +1,6 @@
 //! The tables layer: the checks that need no geometry, and the net that they leave.
+#![tactic(auto)]
+
 mod chains;
 mod edges;
 mod marks;

@@ -1,4 +1,6 @@
 //! A waiting list in lent slots: the last in is the first out.
+#![tactic(auto)]
+
 ghost use Rattle.std.specs.Prelude.{◌≡◌, ◌+◌, ◌≤◌, [], ◌∷◌, ◌++◌, length, take, if◌then◌else◌, MatchOption, nat_lt};
 ghost use Rattle.std.specs.Option.{option_to_list};
 

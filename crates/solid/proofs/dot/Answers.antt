@@ -10,14 +10,14 @@ XY = var 0 ⊗ var 3 ⊕ var 1 ⊗ var 4
 abbrev XYZ : Expr
 XYZ = XY ⊕ var 2 ⊗ var 5
 
-pub overflow-add-result : goal.overflow-add-result
-overflow-add-result c = fits (each 6 16000) (pair c.args.u c.args.v) (pair_far c.args.u c.args.v c.requires) w64 XY tt
+pub overflow_add-result : goal.overflow_add-result
+overflow_add-result c = fits (each 6 16000) (pair c.args.u c.args.v) (pair_far c.args.u c.args.v c.requires) w64 XY tt
 
-pub overflow-mul-result-3 : goal.overflow-mul-result-3
-overflow-mul-result-3 c = fits (each 6 16000) (pair c.args.u c.args.v) (pair_far c.args.u c.args.v c.requires) w64 (var 2 ⊗ var 5) tt
+pub overflow_mul-result-3 : goal.overflow_mul-result-3
+overflow_mul-result-3 c = fits (each 6 16000) (pair c.args.u c.args.v) (pair_far c.args.u c.args.v c.requires) w64 (var 2 ⊗ var 5) tt
 
-pub overflow-add-result-2 : goal.overflow-add-result-2
-overflow-add-result-2 c = fits (each 6 16000) (pair c.args.u c.args.v) (pair_far c.args.u c.args.v c.requires) w64 XYZ tt
+pub overflow_add-result-2 : goal.overflow_add-result-2
+overflow_add-result-2 c = fits (each 6 16000) (pair c.args.u c.args.v) (pair_far c.args.u c.args.v c.requires) w64 XYZ tt
 
 pub returns : goal.returns
 returns c =

@@ -33,47 +33,47 @@ C = var 3 ⊗ var 7 ⊖ var 4 ⊗ var 6
 abbrev V : Expr
 V = var 0 ⊗ A ⊕ var 1 ⊗ B ⊕ var 2 ⊗ C
 
-pub overflow-mul-result : goal.overflow-mul-result
-overflow-mul-result c = ok c.args.u c.args.v c.args.w c.requires (var 4 ⊗ var 8) tt
+pub overflow_mul-result : goal.overflow_mul-result
+overflow_mul-result c = ok c.args.u c.args.v c.args.w c.requires (var 4 ⊗ var 8) tt
 
-pub overflow-mul-result-2 : goal.overflow-mul-result-2
-overflow-mul-result-2 c = ok c.args.u c.args.v c.args.w c.requires (var 5 ⊗ var 7) tt
+pub overflow_mul-result-2 : goal.overflow_mul-result-2
+overflow_mul-result-2 c = ok c.args.u c.args.v c.args.w c.requires (var 5 ⊗ var 7) tt
 
-pub overflow-sub-result : goal.overflow-sub-result
-overflow-sub-result c = ok c.args.u c.args.v c.args.w c.requires (A) tt
+pub overflow_sub-result : goal.overflow_sub-result
+overflow_sub-result c = ok c.args.u c.args.v c.args.w c.requires (A) tt
 
-pub overflow-mul-result-3 : goal.overflow-mul-result-3
-overflow-mul-result-3 c = ok c.args.u c.args.v c.args.w c.requires (var 0 ⊗ A) tt
+pub overflow_mul-result-3 : goal.overflow_mul-result-3
+overflow_mul-result-3 c = ok c.args.u c.args.v c.args.w c.requires (var 0 ⊗ A) tt
 
-pub overflow-mul-result-4 : goal.overflow-mul-result-4
-overflow-mul-result-4 c = ok c.args.u c.args.v c.args.w c.requires (var 5 ⊗ var 6) tt
+pub overflow_mul-result-4 : goal.overflow_mul-result-4
+overflow_mul-result-4 c = ok c.args.u c.args.v c.args.w c.requires (var 5 ⊗ var 6) tt
 
-pub overflow-mul-result-5 : goal.overflow-mul-result-5
-overflow-mul-result-5 c = ok c.args.u c.args.v c.args.w c.requires (var 3 ⊗ var 8) tt
+pub overflow_mul-result-5 : goal.overflow_mul-result-5
+overflow_mul-result-5 c = ok c.args.u c.args.v c.args.w c.requires (var 3 ⊗ var 8) tt
 
-pub overflow-sub-result-2 : goal.overflow-sub-result-2
-overflow-sub-result-2 c = ok c.args.u c.args.v c.args.w c.requires (B) tt
+pub overflow_sub-result-2 : goal.overflow_sub-result-2
+overflow_sub-result-2 c = ok c.args.u c.args.v c.args.w c.requires (B) tt
 
-pub overflow-mul-result-6 : goal.overflow-mul-result-6
-overflow-mul-result-6 c = ok c.args.u c.args.v c.args.w c.requires (var 1 ⊗ B) tt
+pub overflow_mul-result-6 : goal.overflow_mul-result-6
+overflow_mul-result-6 c = ok c.args.u c.args.v c.args.w c.requires (var 1 ⊗ B) tt
 
-pub overflow-add-result : goal.overflow-add-result
-overflow-add-result c = ok c.args.u c.args.v c.args.w c.requires (var 0 ⊗ A ⊕ var 1 ⊗ B) tt
+pub overflow_add-result : goal.overflow_add-result
+overflow_add-result c = ok c.args.u c.args.v c.args.w c.requires (var 0 ⊗ A ⊕ var 1 ⊗ B) tt
 
-pub overflow-mul-result-7 : goal.overflow-mul-result-7
-overflow-mul-result-7 c = ok c.args.u c.args.v c.args.w c.requires (var 3 ⊗ var 7) tt
+pub overflow_mul-result-7 : goal.overflow_mul-result-7
+overflow_mul-result-7 c = ok c.args.u c.args.v c.args.w c.requires (var 3 ⊗ var 7) tt
 
-pub overflow-mul-result-8 : goal.overflow-mul-result-8
-overflow-mul-result-8 c = ok c.args.u c.args.v c.args.w c.requires (var 4 ⊗ var 6) tt
+pub overflow_mul-result-8 : goal.overflow_mul-result-8
+overflow_mul-result-8 c = ok c.args.u c.args.v c.args.w c.requires (var 4 ⊗ var 6) tt
 
-pub overflow-sub-result-3 : goal.overflow-sub-result-3
-overflow-sub-result-3 c = ok c.args.u c.args.v c.args.w c.requires (C) tt
+pub overflow_sub-result-3 : goal.overflow_sub-result-3
+overflow_sub-result-3 c = ok c.args.u c.args.v c.args.w c.requires (C) tt
 
-pub overflow-mul-result-9 : goal.overflow-mul-result-9
-overflow-mul-result-9 c = ok c.args.u c.args.v c.args.w c.requires (var 2 ⊗ C) tt
+pub overflow_mul-result-9 : goal.overflow_mul-result-9
+overflow_mul-result-9 c = ok c.args.u c.args.v c.args.w c.requires (var 2 ⊗ C) tt
 
-pub overflow-add-result-2 : goal.overflow-add-result-2
-overflow-add-result-2 c = ok c.args.u c.args.v c.args.w c.requires (V) tt
+pub overflow_add-result-2 : goal.overflow_add-result-2
+overflow_add-result-2 c = ok c.args.u c.args.v c.args.w c.requires (V) tt
 
 pub returns : goal.returns
 returns c =

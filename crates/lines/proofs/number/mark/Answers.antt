@@ -3,13 +3,13 @@ use Rattle.lines.specs.Numbers.{unsigned}
 use Rattle.lines.proofs.Parses.{unsigned_reads, unsigned_no_text, text_is, no_text}
 use Rattle.lines.proofs.number.mark.Goals as goal
 
-pub returns-in-err-ok : goal.returns-in-err-ok
-returns-in-err-ok c =
-    c.from-residual.ensures
-    ∙ sym (unsigned_no_text (2 ^ 8) c.args.word.now (no_text c.args.word.now c.from-utf8.result c.from-utf8.ensures.cases (sym c.ok.ensures.value ∙ c.in-err-ok.was)))
+pub returns-in_err-ok : goal.returns-in_err-ok
+returns-in_err-ok c =
+    c.from_residual.ensures
+    ∙ sym (unsigned_no_text (2 ^ 8) c.args.word.now (no_text c.args.word.now c.from_utf8.result c.from_utf8.ensures.cases (sym c.ok.ensures.value ∙ c.in_err-ok.was)))
 
 pub returns : goal.returns
 returns c =
     c.ok-2.ensures.value
-    ∙ unsigned_reads 8 c.in-ok-ok.field-0.now c.parse.result c.parse.ensures.value.0
-    ∙ ap (unsigned (2 ^ 8)) (text_is c.args.word.now c.from-utf8.result c.in-ok-ok.field-0 c.from-utf8.ensures.cases (sym c.ok.ensures.value ∙ c.in-ok-ok.was))
+    ∙ unsigned_reads 8 c.in_ok-ok.field-0.now c.parse.result c.parse.ensures.value.0
+    ∙ ap (unsigned (2 ^ 8)) (text_is c.args.word.now c.from_utf8.result c.in_ok-ok.field-0 c.from_utf8.ensures.cases (sym c.ok.ensures.value ∙ c.in_ok-ok.was))

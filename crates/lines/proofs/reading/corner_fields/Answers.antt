@@ -4,6 +4,6 @@ use Rattle.lines.proofs.reading.corner_fields.Goals as goal
 
 pub returns : goal.returns
 returns c =
-    let none : length c.split-word-4.result.0.now ≡ 0 = search rules in
-    corner_made c.in-ok-index.ensures c.in-ok-mark.ensures c.in-ok-index-2.ensures
-    ∙ sym (three_read _ asks_corner _ _ _ _ _ _ _ _ _ c.split-word.ensures c.split-word-2.ensures c.split-word-3.ensures c.split-word-4.ensures none)
+    let none : length c.split_word-4.result.0.now ≡ 0 = search rules in
+    corner_made c.in_ok-index.ensures c.in_ok-mark.ensures c.in_ok-index-2.ensures
+    ∙ sym (three_read _ asks_corner _ _ _ _ _ _ _ _ _ c.split_word.ensures c.split_word-2.ensures c.split_word-3.ensures c.split_word-4.ensures none)

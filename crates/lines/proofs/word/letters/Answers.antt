@@ -7,16 +7,16 @@ pub loop-n-preserved : goal.loop-n-preserved
 loop-n-preserved c = (
   omega (
     arith,
-    prefix_len-drop_yes (λ b. not (blank b)) c.args.text.now c.loop-n.n 0 c.loop-n-test.true (ap not (sym c.if-not-is-blank.ensures)),
+    prefix_len-drop_yes (λ b. not (blank b)) c.args.text.now c.loop-n.n 0 c.loop-n-test.true (ap not (sym c.if-not-is_blank.ensures)),
   ),
   omega arith,
 )
 
-pub returns-else-not-is-blank : goal.returns-else-not-is-blank
-returns-else-not-is-blank c =
+pub returns-else-not-is_blank : goal.returns-else-not-is_blank
+returns-else-not-is_blank c =
     omega (
       arith,
-      prefix_len-drop_no (λ b. not (blank b)) c.args.text.now c.loop-n.n 0 c.loop-n-test.true (ap not (sym c.if-not-is-blank.ensures)),
+      prefix_len-drop_no (λ b. not (blank b)) c.args.text.now c.loop-n.n 0 c.loop-n-test.true (ap not (sym c.if-not-is_blank.ensures)),
     )
 
 pub returns-after-loop-n : goal.returns-after-loop-n

@@ -2,24 +2,24 @@ use Rattle.std.proofs.lemmas.Result.{err_from_is_err_and}
 use Rattle.shape.specs.Shapes.{bent, level, hollow}
 use Rattle.shape.proofs.shaping.check_shape.Goals as goal
 
-pub returns-in-err-flat-faces : goal.returns-in-err-flat-faces
-returns-in-err-flat-faces c rounds l =
-    let p = err_from_is_err_and c.from-residual.result c.from-residual.ensures.1 in
-    rw (p.1, p.2) (bent c.in-err-flat-faces.ensures)
+pub returns-in_err-flat_faces : goal.returns-in_err-flat_faces
+returns-in_err-flat_faces c rounds l =
+    let p = err_from_is_err_and c.from_residual.result c.from_residual.ensures.1 in
+    rw (p.1, p.2) (bent c.in_err-flat_faces.ensures)
 
-pub returns-in-err-no-level-faces : goal.returns-in-err-no-level-faces
-returns-in-err-no-level-faces c rounds l =
-    let p = err_from_is_err_and c.from-residual-in-err-no-level-faces.result c.from-residual-in-err-no-level-faces.ensures.1 in
-    rw (p.1, p.2) (level c.in-ok-flat-faces.ensures c.in-err-no-level-faces.ensures)
+pub returns-in_err-no_level_faces : goal.returns-in_err-no_level_faces
+returns-in_err-no_level_faces c rounds l =
+    let p = err_from_is_err_and c.from_residual-in_err-no_level_faces.result c.from_residual-in_err-no_level_faces.ensures.1 in
+    rw (p.1, p.2) (level c.in_ok-flat_faces.ensures c.in_err-no_level_faces.ensures)
 
-pub returns-in-err-positive-volume : goal.returns-in-err-positive-volume
-returns-in-err-positive-volume c rounds l =
-    let p = err_from_is_err_and c.from-residual-in-err-positive-volume.result c.from-residual-in-err-positive-volume.ensures.1 in
-    rw (p.1, p.2) (hollow c.in-ok-flat-faces.ensures c.in-ok-no-level-faces.ensures (c.in-err-positive-volume.ensures rounds l))
+pub returns-in_err-positive_volume : goal.returns-in_err-positive_volume
+returns-in_err-positive_volume c rounds l =
+    let p = err_from_is_err_and c.from_residual-in_err-positive_volume.result c.from_residual-in_err-positive_volume.ensures.1 in
+    rw (p.1, p.2) (hollow c.in_ok-flat_faces.ensures c.in_ok-no_level_faces.ensures (c.in_err-positive_volume.ensures rounds l))
 
 pub returns : goal.returns
 returns c rounds l = record {
-  flat = c.in-ok-flat-faces.ensures;
-  angled = c.in-ok-no-level-faces.ensures;
-  positive = c.in-ok-positive-volume.ensures rounds l;
+  flat = c.in_ok-flat_faces.ensures;
+  angled = c.in_ok-no_level_faces.ensures;
+  positive = c.in_ok-positive_volume.ensures rounds l;
 }

@@ -9,7 +9,7 @@ loop-p-init c = filled_none _
 pub loop-p-preserved : goal.loop-p-preserved
 loop-p-preserved c =
     filled_more _ _ _ _ _ (omega arith) c.loop-p.invariant c.bucket-b.ensures.is c.bucket-b.ensures.below
-    (λ again. false≢true (c.if-is-repeated.ensures.1 again))
+    (λ again. false≢true (c.if-is_repeated.ensures.1 again))
 
 pub returns : goal.returns
 returns c k h = c.loop-p.invariant.distinct k (omega arith)

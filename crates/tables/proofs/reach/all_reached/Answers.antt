@@ -3,4 +3,4 @@ use Rattle.tables.proofs.Judging.{judges_marked}
 use Rattle.tables.proofs.reach.all_reached.Goals as goal
 
 pub returns : goal.returns
-returns c = judges_marked _ 480 _ _ _ c.all-marked.result (omega arith) c.reached-edges-marks.ensures c.all-marked.ensures
+returns c = judges_marked _ 480 _ _ _ c.all_marked.result (omega arith) c.reached_edges-marks.ensures c.all_marked.ensures

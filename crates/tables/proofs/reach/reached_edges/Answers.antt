@@ -14,8 +14,8 @@ edge : (c : In-Some) → c.in-Some.e < length c.args.next.now
 edge c =
     search_within _ _ _ c.requires.next_within c.requires.opposite_within (omega (arith, c.requires.count)) _ _ _ _ c.in-Some.ensures.items c.loop-e.invariant.0
 
-pub offset-bounds-next-e : goal.offset-bounds-next-e
-offset-bounds-next-e c = omega (arith, edge (goal.at.offset-bounds-next-e c).In-Some, c.requires.count)
+pub offset_bounds-next-e : goal.offset_bounds-next-e
+offset_bounds-next-e c = omega (arith, edge (goal.at.offset_bounds-next-e c).In-Some, c.requires.count)
 
 pub bounds-next-e : goal.bounds-next-e
 bounds-next-e c = edge (goal.at.bounds-next-e c).In-Some
@@ -27,8 +27,8 @@ visit-requires-in-Some c =
       omega (arith, c.in-Some.ensures.len, c.in-Some.ensures.room, c.loop-e.invariant.1, c.loop-e.invariant.2),
     )
 
-pub offset-bounds-opposite-e : goal.offset-bounds-opposite-e
-offset-bounds-opposite-e c = omega (arith, edge (goal.at.offset-bounds-opposite-e c).In-Some, c.requires.count)
+pub offset_bounds-opposite-e : goal.offset_bounds-opposite-e
+offset_bounds-opposite-e c = omega (arith, edge (goal.at.offset_bounds-opposite-e c).In-Some, c.requires.count)
 
 pub bounds-opposite-e : goal.bounds-opposite-e
 bounds-opposite-e c = omega (arith, edge (goal.at.bounds-opposite-e c).In-Some, c.requires.count)
@@ -52,4 +52,4 @@ loop-e-preserved c =
     )
 
 pub returns : goal.returns
-returns c = search_ends _ _ _ _ (none_taken _ _ c.in-default.ensures.len.0) c.loop-e.invariant.0
+returns c = search_ends _ _ _ _ (none_taken _ _ c.in_default.ensures.len.0) c.loop-e.invariant.0

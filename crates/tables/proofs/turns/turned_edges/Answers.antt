@@ -6,8 +6,8 @@ use Rattle.tables.proofs.turns.turned_edges.Goals.{then-not-begun-q, else-not-be
 pub loop-e-init : goal.loop-e-init
 loop-e-init c = begun_none _ _ _ _ c.requires.mesh
 
-pub turn-from-requires : goal.turn-from-requires
-turn-from-requires c =
+pub turn_from-requires : goal.turn_from-requires
+turn_from-requires c =
     let mesh = c.requires.mesh in
     record {
       size = (mesh.opposite_size ∙ sym mesh.next_size, (omega (arith, mesh.next_size, c.loop-e.invariant.size, c.requires.count), omega (arith, mesh.next_size)));
@@ -22,7 +22,7 @@ loop-e-preserved c =
     elim c.if-not-begun-q.branch [
       | then-not-begun-q w ↦
           rw (w.marks-is, w.begun-is)
-          (begun_more _ _ _ _ mesh _ _ _ _ c.loop-e-test.true c.requires.count.0 c.loop-e.invariant w.if-not-begun-q.true w.turn-from.auto.marks w.turn-from.ensures)
+          (begun_more _ _ _ _ mesh _ _ _ _ c.loop-e-test.true c.requires.count.0 c.loop-e.invariant w.if-not-begun-q.true w.turn_from.auto.marks w.turn_from.ensures)
       | else-not-begun-q w ↦ rw (w.marks-is, w.begun-is) (begun_same _ _ _ _ mesh _ _ _ c.loop-e.invariant w.if-not-begun-q.false)
     ]
 

@@ -4,9 +4,9 @@ use Rattle.tables.proofs.turns.whole_points.Goals as goal
 
 pub returns : goal.returns
 returns c =
-    let marks = c.turned-edges-marks.ensures in
-    judges_as _ _ _ _ _ _ c.all-marked.result
+    let marks = c.turned_edges-marks.ensures in
+    judges_as _ _ _ _ _ _ c.all_marked.result
     (λ q _ all. whole_from_marks _ _ _ _ marks q all)
     (λ q _ not-all whole. not-all (marks_from_whole _ _ _ _ marks q whole))
     (λ q _ not-whole all. not-whole (whole_from_marks _ _ _ _ marks q all))
-    (judges_marked _ 160 _ _ _ c.all-marked.result c.requires.count.0 c.full-points-full.ensures c.all-marked.ensures)
+    (judges_marked _ 160 _ _ _ c.all_marked.result c.requires.count.0 c.full_points-full.ensures c.all_marked.ensures)

@@ -2,8 +2,8 @@ use Rattle.std.proofs.Common.{arith}
 use Rattle.block.proofs.Tabled.{start_room, point_read, start_near}
 use Rattle.block.proofs.body.Block.start_point.Goals as goal
 
-pub offset-bounds-self-self : goal.offset-bounds-self-self
-offset-bounds-self-self c = let h = start_room c.args.self.now c.args.edge c.requires in record { fits = omega arith }
+pub offset_bounds-self-self : goal.offset_bounds-self-self
+offset_bounds-self-self c = let h = start_room c.args.self.now c.args.edge c.requires in record { fits = omega arith }
 
 pub bounds-self-self : goal.bounds-self-self
 bounds-self-self c = start_room c.args.self.now c.args.edge c.requires

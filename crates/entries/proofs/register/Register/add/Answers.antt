@@ -1,5 +1,5 @@
 use Rattle.entries.specs.Views.{joins}
 use Rattle.entries.proofs.register.Register.add.Goals as goal
 
-pub returns-in-Some-last-of : goal.returns-in-Some-last-of
-returns-in-Some-last-of c = rw c.in-Some.is (joins c.in-Some-last-of.last c.in-Some-last-of.ensures c.join.ensures)
+pub returns-in-Some-last_of : goal.returns-in-Some-last_of
+returns-in-Some-last_of c = rw c.in-Some.is (joins c.in-Some-last_of.last c.in-Some-last_of.ensures c.join.ensures)

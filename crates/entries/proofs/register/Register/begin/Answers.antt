@@ -3,11 +3,11 @@ use Rattle.entries.specs.declared.record.Entry.{Entry}
 use Rattle.entries.proofs.Chaining.{count_is, begun, begun_chained}
 use Rattle.entries.proofs.register.Register.begin.Goals as goal
 
-pub invariant-of-self : goal.invariant-of-self
-invariant-of-self c =
+pub invariant_of-self : goal.invariant_of-self
+invariant_of-self c =
     let r = c.args.self.now in
     let n = count_is r in
-    (length-set _ _ _ ∙ r.whole, (omega arith, (begun_chained r _ (omega arith) refl, tt)))
+    record { whole = length-set _ _ _ ∙ r.whole; few = omega arith; chained = begun_chained r _ (omega arith) refl }
 
 pub returns : goal.returns
 returns c =

@@ -4,11 +4,11 @@ use Rattle.entries.specs.Chains.{with_next}
 use Rattle.entries.proofs.Chaining.{count_is, joined, joined_chained}
 use Rattle.entries.proofs.register.Register.join.Goals as goal
 
-pub invariant-of-self : goal.invariant-of-self
-invariant-of-self c =
+pub invariant_of-self : goal.invariant_of-self
+invariant_of-self c =
     let r = c.args.self.now in
     let n = count_is r in
-    (length-set _ _ _ ∙ length-set _ _ _ ∙ r.whole, (omega arith, (joined_chained r _ _ _ (omega arith) (omega arith) (omega arith) refl, tt)))
+    record { whole = length-set _ _ _ ∙ length-set _ _ _ ∙ r.whole; few = omega arith; chained = joined_chained r _ _ _ (omega arith) (omega arith) (omega arith) refl }
 
 pub returns : goal.returns
 returns c =

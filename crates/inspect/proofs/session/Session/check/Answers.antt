@@ -11,7 +11,7 @@ returns c =
     let a = c.match-verdict.answer in
     elim c.match-verdict.branch [
       | in-Ok w ↦ record {
-        judged = passes _ _ _ _ _ w.answer-is w.in-Ok.ensures w.edge-count-edges.ensures (ap (λ x. x.recent) w.self-is ∙ w.keep.ensures);
+        judged = passes _ _ _ _ _ w.answer-is w.in-Ok.ensures w.edge_count-edges.ensures (ap (λ x. x.recent) w.self-is ∙ w.keep.ensures);
         counts = c.count.ensures ∙ ap (λ x. counted x.tally a) w.self-is;
         emptied = subst (λ (x : Session). Holds x.tables [] [] []) (sym w.self-is) c.clear.ensures;
         images = ap (λ x. vec_items x.images) w.self-is;
