@@ -1,6 +1,8 @@
 -- Labels are the same exactly where they are equal.
 use Rattle.std.specs.Prelude.{◌≡◌, ℕ, Bool, true, false, cond, ◌&&◌, T, ℤ, pos, negsuc, Decides, ◌≢◌, refl}
 use Rattle.std.proofs.Common.{sym, ap, subst, arith, eqb→eq, eq-eqb}
+use Rattle.std.specs.Ordering.{int_eq}
+use Rattle.std.proofs.lemmas.Bool.Decides.{Decides-int_eq}
 use Rattle.label.specs.declared.measures.Measures.{Measures}
 use Rattle.label.specs.Sameness.{equal, same_measures}
 
@@ -46,42 +48,26 @@ true_is : (b : Bool) → T b → b ≡ true
 true_is true t = refl
 true_is false t = absurd t
 
+is_true : (b : Bool) → b ≡ true → T b
+is_true b e = subst (λ (z : Bool). T z) (sym e) tt
+
 -- two answers that decide one question are one
 pub decided : (r s : Bool) (P : Type 0) → (T r → P) → (P → T r) → (T s → P) → (P → T s) → r ≡ s
 decided true s P f g h k = sym (true_is s (k (f tt)))
 decided false true P f g h k = absurd (g (h tt))
 decided false false P f g h k = refl
 
-never : false ≡ true → ⊥
-never e = let z : ◌≡◌ {A = ℕ} 0 1 = cc in omega arith
+pub same_back : (x y : Measures) → x ≡ y → T (same_measures x y)
+same_back x y e = subst (λ (z : Measures). T (same_measures x z)) e (same_self x)
+
+-- one field compares as it is told
+told : (x y : ℤ) → int_eq x y ≡ equal x y
+told x y =
+    decided (int_eq x y) (equal x y) (x ≡ y) (λ t. (Decides-int_eq x y).0 (true_is (int_eq x y) t)) (λ e. is_true (int_eq x y) ((Decides-int_eq x y).1 e)) (equal_is x y)
+    (λ e. subst (λ (z : ℤ). T (equal x z)) e (equal_self x))
 
 -- what the comparison of all fields answers is whether the labels are the same
-module _ (x y : Measures) where
-  -- what it says of one field
-  abbrev Says : Bool → (Measures → ℤ) → Type 0
-  Says r field = Decides r (field x ≡ field y)
-
-  abbrev pub Compared : Bool → Type 0
-  Compared r = cond r
-      (Says true (λ m. m.ee) × (Says true (λ m. m.eb) × (Says true (λ m. m.eb2) × (Says true (λ m. m.ec) × (Says true (λ m. m.bc) × Says true (λ m. m.volume))))))
-      ((Says false (λ m. m.ee) → ⊥) → (Says false (λ m. m.eb) → ⊥) → (Says false (λ m. m.eb2) → ⊥) → (Says false (λ m. m.ec) → ⊥) → (Says false (λ m. m.bc) → ⊥) → (Says false (λ m. m.volume) → ⊥) → ⊥)
-
-  joined : Compared true → x ≡ y
-  joined (ee, (eb, (eb2, (ec, (bc, volume))))) = λ i. record {
-    ee = ee.0 refl i;
-    eb = eb.0 refl i;
-    eb2 = eb2.0 refl i;
-    ec = ec.0 refl i;
-    bc = bc.0 refl i;
-    volume = volume.0 refl i;
-  }
-
-  apart : Compared false → x ≢ y
-  apart h e = h (λ d. never (d.1 (λ i. (e i).ee))) (λ d. never (d.1 (λ i. (e i).eb))) (λ d. never (d.1 (λ i. (e i).eb2))) (λ d. never (d.1 (λ i. (e i).ec))) (λ d. never (d.1 (λ i. (e i).bc))) (λ d. never (d.1 (λ i. (e i).volume)))
-
-  pub same_back : x ≡ y → T (same_measures x y)
-  same_back e = subst (λ (z : Measures). T (same_measures x z)) e (same_self x)
-
-  pub compared : (r : Bool) → Compared r → r ≡ same_measures x y
-  compared true h = decided true _ (x ≡ y) (λ t. joined h) (λ e. tt) (same_is x y) same_back
-  compared false h = decided false _ (x ≡ y) (λ t. absurd t) (apart h) (same_is x y) same_back
+pub compared : (x y : Measures) →
+    (int_eq x.ee y.ee && (int_eq x.eb y.eb && (int_eq x.eb2 y.eb2
+    && (int_eq x.ec y.ec && (int_eq x.bc y.bc && int_eq x.volume y.volume))))) ≡ same_measures x y
+compared x y = λ i. told x.ee y.ee i && (told x.eb y.eb i && (told x.eb2 y.eb2 i && (told x.ec y.ec i && (told x.bc y.bc i && told x.volume y.volume i))))
