@@ -1,5 +1,5 @@
 -- The entries of a catalogue: the nets of its blocks, in the order of their entry. Entries and edges are told by numbers, from 1.
-use Rattle.std.specs.Prelude.{◌≡◌, ℕ, ◌+◌, ◌-◌, ◌<◌, ◌≤◌, List, [], ◌∷◌, length, take, slice_index_or}
+use Rattle.std.specs.Prelude.{ℕ, ◌+◌, ◌-◌, ◌<◌, ◌≤◌, List, [], ◌∷◌, length, take, slice_index_or}
 use Rattle.drawing.specs.Nets.{Net, edges}
 use Rattle.drawing.specs.Verdicts.{Tables, Sound, Draws}
 use Rattle.block.specs.Checked.{Checked}

@@ -9,7 +9,7 @@ use Rattle.drawing.specs.declared.fault.Cause.TheVariants.{TableCount, Coordinat
 use Rattle.drawing.specs.declared.fault.Fault.{Fault}
 use Rattle.drawing.specs.Causes.{number}
 use Rattle.drawing.specs.Lowest.{Lowest}
-use Rattle.drawing.specs.Lists.{at, ◌∈◌, flat}
+use Rattle.drawing.specs.Lists.{◌∈◌, flat}
 use Rattle.drawing.specs.Chains.{Rounds, Linked, no_corner}
 use Rattle.drawing.specs.Nets.{Net, no_point, starts_of, marks_of, Runs, Matched, edges, start, end, opposite, Reached, Whole, bend, fold, content}
 

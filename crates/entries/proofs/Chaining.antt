@@ -1,11 +1,11 @@
 -- What adding an entry makes of the records.
-use Rattle.std.proofs.Common.{◌≡◌, ℕ, zero, suc, ◌+◌, ◌<◌, ◌≤◌, ◌⊎◌, List, [], ◌∷◌, ◌++◌, length, get_or, take, set, replicate, sym, refl, ap, ◌∙◌, inl, inr, arith, length-set, length-take, get_or-set_other, get_or-set_same}
+use Rattle.std.proofs.Common.{◌≡◌, ℕ, zero, suc, ◌+◌, ◌<◌, List, [], ◌∷◌, ◌++◌, length, get_or, take, set, replicate, sym, refl, ap, ◌∙◌, inl, inr, arith, length-set, length-take, get_or-set_other, get_or-set_same}
 use Rattle.std.proofs.lemmas.Bool.{cases_eq}
 use Rattle.std.proofs.lemmas.List.{get_or-take, take_more_set}
 use Rattle.entries.specs.declared.record.Entry.{Entry}
 use Rattle.entries.specs.declared.register.Register.{Register}
 use Rattle.entries.specs.Views.{entries_of}
-use Rattle.entries.specs.Chains.{no_entry, record_at, Chained, with_next}
+use Rattle.entries.specs.Chains.{no_entry, record_at, Chained}
 
 all_none : (n k : ℕ) → get_or (replicate n no_entry) k no_entry ≡ no_entry
 all_none zero k = refl

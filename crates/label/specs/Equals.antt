@@ -1,6 +1,6 @@
 -- Labels are the same exactly where they are equal.
-use Rattle.std.specs.Prelude.{◌≡◌, ℕ, Bool, true, false, cond, ◌&&◌, T, ℤ, pos, negsuc, Decides, ◌≢◌, refl}
-use Rattle.std.proofs.Common.{sym, ap, subst, arith, eqb→eq, eq-eqb}
+use Rattle.std.specs.Prelude.{◌≡◌, Bool, true, false, ◌&&◌, T, ℤ, pos, negsuc, refl}
+use Rattle.std.proofs.Common.{sym, ap, subst, eqb→eq, eq-eqb}
 use Rattle.std.specs.Ordering.{int_eq}
 use Rattle.std.proofs.lemmas.Bool.Decides.{Decides-int_eq}
 use Rattle.label.specs.declared.measures.Measures.{Measures}

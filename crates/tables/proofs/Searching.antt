@@ -5,7 +5,7 @@ use Rattle.std.proofs.lemmas.Bool.{both_ways}
 use Rattle.drawing.specs.Lists.{at, ◌∈◌}
 use Rattle.drawing.specs.Nets.{Net, Step, along, across, step, leads, Reached}
 use Rattle.tables.specs.Bare.{bare}
-use Rattle.tables.specs.Marked.{mark, unmarked, Marks}
+use Rattle.tables.specs.Marked.{mark, Marks}
 use Rattle.tables.proofs.Marking.{none_marked, marked_here, marked_stays, marked_cases}
 
 in_front : (xs ys : List ℕ) (k : ℕ) → k ∈ xs → k ∈ (xs ++ ys)

@@ -1,4 +1,4 @@
-use Rattle.std.proofs.Common.{ℕ, ◌+◌, refl, ◌∙◌, arith, length-set}
+use Rattle.std.proofs.Common.{◌+◌, refl, ◌∙◌, arith, length-set}
 use Rattle.entries.specs.declared.record.Entry.{Entry}
 use Rattle.entries.specs.Chains.{with_next}
 use Rattle.entries.proofs.Chaining.{count_is, joined, joined_chained}
