@@ -1,6 +1,6 @@
 -- Rows of calls, and what holds of every one.
 use Rattle.std.specs.Prelude.{◌≡◌, ℕ, ◌+◌, ◌-◌, ◌<◌, Bool, cond, T, ◌⊎◌, List, [], ◌∷◌, ◌++◌, map, length, take, Some, None, Ok, Err, Option, Result, ◌==◌, slice_index_or, slice_set}
-use Rattle.std.specs.List.{AllByRecursion as All}
+use Rattle.std.specs.List.{AllByRecursion}
 use Rattle.drawing.specs.Lists.{at}
 use Rattle.drawing.specs.Nets.{Net, edges}
 use Rattle.drawing.specs.Verdicts.{Tables}
@@ -159,7 +159,7 @@ module _ {L : Type 0} (label : Net → ℕ → L) (same : L → L → Bool) wher
   pub record FirstOfAll (nets : List Net) (lays : Lays) (out : List (List ℕ)) : Type 0 where
     pub images : List ℕ
     pub all : FirstImages label same (entry nets lays.from) (entry nets lays.to) images
-    pub pairings : All (Laid label same (entry nets lays.from) (entry nets lays.to)) out
+    pub pairings : AllByRecursion (Laid label same (entry nets lays.from) (entry nets lays.to)) out
     pub firsts : map (λ way. at way 0) out ≡ map (λ g. g + 1) (take (length out) images)
 
   -- An unrefused step of the listing ends it, and answers their number, exactly when all were out before.

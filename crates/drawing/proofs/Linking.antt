@@ -1,6 +1,6 @@
 -- The tables draw one net at the most, whose next edges are a permutation.
 use Rattle.std.proofs.Common.{◌≡◌, ℕ, ◌-◌, ◌<◌, List, [], ◌∷◌, map, length, sym, ap, ◌∙◌, subst, inl, inr, arith}
-use Rattle.std.specs.List.{AllByRecursion as All}
+use Rattle.std.specs.List.{AllByRecursion}
 use Rattle.std.proofs.lemmas.List.{ext_get_or, length-map}
 use Rattle.std.proofs.lemmas.Bool.{cases_eq}
 use Rattle.drawing.specs.declared.record.Corner.{Corner}
@@ -13,7 +13,7 @@ use Rattle.drawing.proofs.Members.{in_left, in_right, in_cases, in_map, from_map
 use Rattle.drawing.proofs.Following.{each_once, each_within}
 
 -- two lists of next edges that go round the same chains agree on their corners
-agree : (next other : List ℕ) (rounds : List (List ℕ)) → All (λ ks. map (at next) ks ≡ rotated ks) rounds → All (λ ks. map (at other) ks ≡ rotated ks) rounds → (k : ℕ) → k ∈ flat rounds → at next k ≡ at other k
+agree : (next other : List ℕ) (rounds : List (List ℕ)) → AllByRecursion (λ ks. map (at next) ks ≡ rotated ks) rounds → AllByRecursion (λ ks. map (at other) ks ≡ rotated ks) rounds → (k : ℕ) → k ∈ flat rounds → at next k ≡ at other k
 agree next other [] a b k h = absurd h
 agree next other (ks ∷ rounds) a b k h =
     elim (in_cases k ks (flat rounds) h) [ inl m ↦ one ks (a.0 ∙ sym b.0) m | inr m ↦ agree next other rounds a.1 b.1 k m ]
@@ -33,7 +33,7 @@ module _ (cs : List Corner) (fs : List Face) where
 
   module _ (next : List ℕ) (l : Linked cs fs next) where
     -- the next edge of a chain's corner is in the chain
-    stays : (rounds : List (List ℕ)) → All (λ ks. map (at next) ks ≡ rotated ks) rounds → (k : ℕ) → k ∈ flat rounds → at next k ∈ flat rounds
+    stays : (rounds : List (List ℕ)) → AllByRecursion (λ ks. map (at next) ks ≡ rotated ks) rounds → (k : ℕ) → k ∈ flat rounds → at next k ∈ flat rounds
     stays [] a k h = h
     stays (ks ∷ rounds) a k h =
         elim (in_cases k ks (flat rounds) h) [
@@ -44,7 +44,7 @@ module _ (cs : List Corner) (fs : List Face) where
     pub next_within : (k : ℕ) → k < length cs → at next k < length cs
     next_within k lt = each_within cs fs l.rounds (at next k) l.drawn.chains (stays l.rounds l.goes_round k (l.covers k lt))
 
-    before : (rounds : List (List ℕ)) → All (λ ks. map (at next) ks ≡ rotated ks) rounds → (k : ℕ) → k ∈ flat rounds → (j : ℕ) × (j ∈ flat rounds) × (at next j ≡ k)
+    before : (rounds : List (List ℕ)) → AllByRecursion (λ ks. map (at next) ks ≡ rotated ks) rounds → (k : ℕ) → k ∈ flat rounds → (j : ℕ) × (j ∈ flat rounds) × (at next j ≡ k)
     before [] a k h = absurd h
     before (ks ∷ rounds) a k h =
         elim (in_cases k ks (flat rounds) h) [
@@ -60,7 +60,7 @@ module _ (cs : List Corner) (fs : List Face) where
         let b = before l.rounds l.goes_round k (l.covers k lt) in
         (b.0, each_within cs fs l.rounds b.0 l.drawn.chains b.1, b.2)
 
-    once : (rounds : List (List ℕ)) → Distinct (flat rounds) → All (λ ks. map (at next) ks ≡ rotated ks) rounds → (j k : ℕ) → j ∈ flat rounds → k ∈ flat rounds → at next j ≡ at next k → j ≡ k
+    once : (rounds : List (List ℕ)) → Distinct (flat rounds) → AllByRecursion (λ ks. map (at next) ks ≡ rotated ks) rounds → (j k : ℕ) → j ∈ flat rounds → k ∈ flat rounds → at next j ≡ at next k → j ≡ k
     once [] d a j k h i e = absurd h
     once (ks ∷ rounds) d a j k h i e =
         elim (in_cases j ks (flat rounds) h) [

@@ -1,6 +1,6 @@
 -- What is in a list, and lists in which nothing stands twice.
 use Rattle.std.proofs.Common.{◌≡◌, ℕ, zero, suc, ◌<◌, ◌⊎◌, List, [], ◌∷◌, ◌++◌, map, length, sym, refl, ◌∙◌, inl, inr, arith}
-use Rattle.std.specs.List.{AllByRecursion as All}
+use Rattle.std.specs.List.{AllByRecursion}
 use Rattle.drawing.specs.Lists.{at, ◌∈◌, Distinct, rotated}
 
 pub in_left : (x : ℕ) (xs ys : List ℕ) → x ∈ xs → x ∈ (xs ++ ys)
@@ -74,12 +74,12 @@ map_once f (z ∷ xs) d x y (inl a) (inr k) e = absurd (d.0 (rw (sym a, e) (in_m
 map_once f (z ∷ xs) d x y (inr h) (inl b) e = absurd (d.0 (rw (sym b, sym e) (in_map f x xs h)))
 map_once f (z ∷ xs) d x y (inr h) (inr k) e = map_once f xs d.1 x y h k e
 
-pub all_in : (P : ℕ → Type 0) (xs : List ℕ) → All P xs → (x : ℕ) → x ∈ xs → P x
+pub all_in : (P : ℕ → Type 0) (xs : List ℕ) → AllByRecursion P xs → (x : ℕ) → x ∈ xs → P x
 all_in P [] a x h = absurd h
 all_in P (y ∷ xs) a x (inl e) = rw e a.0
 all_in P (y ∷ xs) a x (inr h) = all_in P xs a.1 x h
 
-pub all_from_in : (P : ℕ → Type 0) (xs : List ℕ) → ((x : ℕ) → x ∈ xs → P x) → All P xs
+pub all_from_in : (P : ℕ → Type 0) (xs : List ℕ) → ((x : ℕ) → x ∈ xs → P x) → AllByRecursion P xs
 all_from_in P [] f = tt
 all_from_in P (y ∷ xs) f = (f y (inl refl), all_from_in P xs (λ x h. f x (inr h)))
 

@@ -1,6 +1,6 @@
 -- The chains of the faces: the corners that are met when the next indices are followed.
 use Rattle.std.specs.Prelude.{◌≡◌, ℕ, ◌+◌, ◌<◌, ◌≤◌, List, [], ◌∷◌, map, length, slice_index_or}
-use Rattle.std.specs.List.{AllByRecursion as All}
+use Rattle.std.specs.List.{AllByRecursion}
 use Rattle.drawing.specs.declared.record.Corner.{Corner}
 use Rattle.drawing.specs.declared.record.Face.{Face}
 use Rattle.drawing.specs.Lists.{at, ◌∈◌, Distinct, flat, rotated}
@@ -40,4 +40,4 @@ pub record Linked (cs : List Corner) (fs : List Face) (next : List ℕ) : Type 0
   pub drawn : Rounds cs fs rounds
   pub covers : (k : ℕ) → k < length cs → k ∈ flat rounds
   pub size : length next ≡ length cs
-  pub goes_round : All (λ ks. map (at next) ks ≡ rotated ks) rounds
+  pub goes_round : AllByRecursion (λ ks. map (at next) ks ≡ rotated ks) rounds

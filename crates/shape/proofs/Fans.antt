@@ -1,7 +1,7 @@
 -- The sum of the wedges over the chains is the volume that the faces enclose.
 use Rattle.std.proofs.Common.{◌≡◌, ℕ, List, [], ◌∷◌, ◌++◌, map, ℤ, pos, refl, ap, ◌∙◌, arith}
 use borrow.Author.Differences.{ints}
-use Rattle.std.specs.List.{AllByRecursion as All}
+use Rattle.std.specs.List.{AllByRecursion}
 use Rattle.algebra.proofs.Ring.{Expr, con, var, ◌⊕◌, ◌⊖◌, ◌⊗◌, ring}
 use Rattle.solid.specs.declared.Point.{Point}
 use Rattle.solid.specs.Points.{place, volume}
@@ -27,7 +27,7 @@ back_again p q = ring (both p q) (det 0 1 2 3 4 5 0 1 2) (con (pos 0)) refl
 
 module _ (points : List Point) (starts next home : List ℕ) where
   -- From the corner k on, the chain of h leads through ks and back to h.
-  rest : (h k : ℕ) (ks : List ℕ) → map (at next) (k ∷ ks) ≡ ks ++ (h ∷ []) → All (λ j. at home j ≡ h) (k ∷ ks) → summed (wedge points starts next home) (k ∷ ks) ≡ fan_from (corner points starts h) (corner points starts k) (map (corner points starts) ks)
+  rest : (h k : ℕ) (ks : List ℕ) → map (at next) (k ∷ ks) ≡ ks ++ (h ∷ []) → AllByRecursion (λ j. at home j ≡ h) (k ∷ ks) → summed (wedge points starts next home) (k ∷ ks) ≡ fan_from (corner points starts h) (corner points starts k) (map (corner points starts) ks)
   rest h k [] e homes =
       let n : at next k ≡ h = cc in
       rw (homes.0, n, back_again (corner points starts h) (corner points starts k)) refl
@@ -41,7 +41,7 @@ module _ (points : List Point) (starts next home : List ℕ) where
   chain (h ∷ []) e homes = rest h h [] e homes
   chain (h ∷ k ∷ ks) e homes = rest h h (k ∷ ks) e homes ∙ rw (first_twice (corner points starts h) (corner points starts k)) (omega (arith, ints))
 
-  all_chains : (rounds : List (List ℕ)) → All (λ ks. map (at next) ks ≡ rotated ks) rounds → All (AtHome home) rounds → summed (wedge points starts next home) (flat rounds) ≡ content points starts rounds
+  all_chains : (rounds : List (List ℕ)) → AllByRecursion (λ ks. map (at next) ks ≡ rotated ks) rounds → AllByRecursion (AtHome home) rounds → summed (wedge points starts next home) (flat rounds) ≡ content points starts rounds
   all_chains [] goes homes = refl
   all_chains (ks ∷ rounds) goes homes = summed_append _ ks (flat rounds) ∙ rw (chain ks goes.0 homes.0, all_chains rounds goes.1 homes.1) refl
 

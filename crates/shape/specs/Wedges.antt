@@ -1,6 +1,6 @@
 -- The volume that the faces enclose, edge by edge.
 use Rattle.std.specs.Prelude.{◌≡◌, ℕ, List, [], ◌∷◌, map, ℤ, pos, ◌+ℤ◌, ◌≤ℤ◌, slice_index_or}
-use Rattle.std.specs.List.{AllByRecursion as All}
+use Rattle.std.specs.List.{AllByRecursion}
 use Rattle.solid.specs.declared.Point.{Point}
 use Rattle.solid.specs.Points.{place, volume}
 use Rattle.drawing.specs.declared.fault.Fault.{Fault}
@@ -25,8 +25,8 @@ summed f (k ∷ ks) = f k +ℤ summed f ks
 -- `order` lists the chains one after the other, `next` goes round each, and `home` leads to its first corner.
 pub record Listed (next order home : List ℕ) (rounds : List (List ℕ)) : Type 0 where
   pub order_is : order ≡ flat rounds
-  pub goes_round : All (λ ks. map (at next) ks ≡ rotated ks) rounds
-  pub homes : All (AtHome home) rounds
+  pub goes_round : AllByRecursion (λ ks. map (at next) ks ≡ rotated ks) rounds
+  pub homes : AllByRecursion (AtHome home) rounds
 
 -- The refusal of a volume that is zero or less.
 pub record Hollow (volume : ℤ) (f : Fault) : Type 0 where

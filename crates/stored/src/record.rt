@@ -44,7 +44,7 @@ impl<L> Edge<L> {
 /// The record of an edge of a block, without its part. For the crates above: the block is to have that edge.
 pub fn record_of<K: Kind>(block: &Block, edge: usize) -> Edge<K::Label>
     requires { edge < edges (view block.now) }
-    ensures { Holds label (view block.now) edge result }
+    ensures { Holds K.Kind.label (view block.now) edge result }
 {
     Edge {
         point: block.start(edge),

@@ -40,7 +40,7 @@ impl<'a, K: Kind> Table<'a, K> {
     /// Writes the edges of a block, from the index `start` on. For the crates above: there is to be room.
     pub fn store(&mut self, start: usize, block: &Block)
         requires { start + edges (view block.now) ≤ length self.old.edges.now }
-        ensures stored { Stored label (view block.now) start self.old.edges.now self.new.edges.now }
+        ensures stored { Stored K.Kind.label (view block.now) start self.old.edges.now self.new.edges.now }
         ensures place { self.new.edges.ghost_name ≡ self.old.edges.ghost_name }
     {
         for e in 0..block.edge_count() {

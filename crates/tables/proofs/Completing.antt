@@ -1,6 +1,6 @@
 -- The chains of all faces, face by face, and the next edges that go round them.
 use Rattle.std.proofs.Common.{◌≡◌, ℕ, ◌+◌, ◌-◌, ◌<◌, ◌≤◌, eqb, List, [], ◌∷◌, ◌++◌, map, length, get_or, take, sym, refl, ap, ◌∙◌, inl, inr, arith}
-use Rattle.std.specs.List.{AllByRecursion as All}
+use Rattle.std.specs.List.{AllByRecursion}
 use Rattle.std.proofs.lemmas.List.{take_more, get_or-take, length-take-le}
 use Rattle.std.proofs.ByRecursion.{All-push}
 use Rattle.std.proofs.lemmas.Bool.{eq-eqb, ne_eqb, cond-true, cond-false}
@@ -19,7 +19,7 @@ abbrev no_face : Face
 no_face = record { first = 0 }
 
 -- homes that are kept on the corners of some chains
-pub homes_kept : (home after : List ℕ) (rounds : List (List ℕ)) → ((k : ℕ) → k ∈ flat rounds → at after k ≡ at home k) → All (AtHome home) rounds → All (AtHome after) rounds
+pub homes_kept : (home after : List ℕ) (rounds : List (List ℕ)) → ((k : ℕ) → k ∈ flat rounds → at after k ≡ at home k) → AllByRecursion (AtHome home) rounds → AllByRecursion (AtHome after) rounds
 homes_kept home after [] same h = tt
 homes_kept home after (ks ∷ rounds) same h =
     (one ks (λ k m. same k (in_left k ks (flat rounds) m)) h.0, homes_kept home after rounds (λ k m. same k (in_right k ks (flat rounds) m)) h.1)
@@ -29,7 +29,7 @@ homes_kept home after (ks ∷ rounds) same h =
     one (k ∷ js) same h = all_from_in (λ j. at after j ≡ k) (k ∷ js) (λ j m. same j m ∙ all_in (λ j. at home j ≡ k) (k ∷ js) h j m)
 
 -- the home of a chain's corner is in the chain
-pub home_in : (home : List ℕ) (rounds : List (List ℕ)) → All (AtHome home) rounds → (k : ℕ) → k ∈ flat rounds → at home k ∈ flat rounds
+pub home_in : (home : List ℕ) (rounds : List (List ℕ)) → AllByRecursion (AtHome home) rounds → (k : ℕ) → k ∈ flat rounds → at home k ∈ flat rounds
 home_in home [] h k m = m
 home_in home (ks ∷ rounds) h k m =
     elim (in_cases k ks (flat rounds) m) [
@@ -102,7 +102,7 @@ module _ (cs : List Corner) where
         let here : at next k ≡ j = is k (inl refl) ∙ (cond-false (eqb (next_index cs k) 0) _ _ (ne_eqb (next_index cs k) 0 (λ z. omega arith)) ∙ omega arith) in
         cc
 
-  rounds_turn : (home next : List ℕ) (fs : List Face) (rounds : List (List ℕ)) → EachChain cs fs rounds → All (AtHome home) rounds → ((k : ℕ) → k ∈ flat rounds → at next k ≡ next_of cs home k) → All (λ ks. map (at next) ks ≡ rotated ks) rounds
+  rounds_turn : (home next : List ℕ) (fs : List Face) (rounds : List (List ℕ)) → EachChain cs fs rounds → AllByRecursion (AtHome home) rounds → ((k : ℕ) → k ∈ flat rounds → at next k ≡ next_of cs home k) → AllByRecursion (λ ks. map (at next) ks ≡ rotated ks) rounds
   rounds_turn home next fs [] e h is = tt
   rounds_turn home next [] (ks ∷ rounds) e h is = absurd e
   rounds_turn home next (f ∷ fs) (ks ∷ rounds) e h is =

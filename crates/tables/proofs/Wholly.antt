@@ -1,6 +1,6 @@
 -- All that the tables layer establishes, put together.
 use Rattle.std.proofs.Common.{◌≡◌, ℕ, ◌<◌, ◌≤◌, List, length, get_or, take, sym, refl, ap, ◌∙◌, subst, arith}
-use Rattle.std.specs.List.{AllByRecursion as All}
+use Rattle.std.specs.List.{AllByRecursion}
 use Rattle.std.proofs.lemmas.List.{get_or-take, length-map, length-take-le}
 use Rattle.solid.specs.Points.{Near}
 use Rattle.drawing.specs.Lists.{at, ◌∈◌, flat}
@@ -33,10 +33,10 @@ module _ (t : Tables) (counts : Counts (length t.points) (length t.corners) (len
         ap (λ (n : ℕ). take n w.order) (sym (met_is t.corners t.faces w counts.corners_to complete))
         ∙ (complete.walked.listed_is ∙ ap flat (sym same))
 
-    homes_all : All (AtHome (used t w.home)) rounds
+    homes_all : AllByRecursion (AtHome (used t w.home)) rounds
     homes_all =
         let a = complete.walked in
-        subst (λ (r : List (List ℕ)). All (AtHome (used t w.home)) r) (sym same)
+        subst (λ (r : List (List ℕ)). AllByRecursion (AtHome (used t w.home)) r) (sym same)
         (homes_kept w.home (used t w.home) a.rounds
         (λ k m. get_or-take (length t.corners) w.home k 0 (each_within t.corners t.faces a.rounds k a.drawn.chains m)) a.homes)
 

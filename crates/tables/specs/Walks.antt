@@ -1,6 +1,6 @@
 -- The corners that a walk along the chains has met so far.
 use Rattle.std.specs.Prelude.{◌≡◌, ℕ, ◌+◌, ◌-◌, ◌<◌, cond, ◌≢◌, List, [], ◌∷◌, ◌++◌, length, take, sum_by, ◌==◌}
-use Rattle.std.specs.List.{AllByRecursion as All}
+use Rattle.std.specs.List.{AllByRecursion}
 use Rattle.drawing.specs.declared.record.Corner.{Corner}
 use Rattle.drawing.specs.declared.record.Face.{Face}
 use Rattle.drawing.specs.declared.fault.Fault.{Fault}
@@ -59,7 +59,7 @@ pub record WalkedAll (cs : List Corner) (fs : List Face) (w : Walk) : Type 0 whe
   pub rounds : List (List ℕ)
   pub drawn : Rounds cs fs rounds
   pub listed_is : listed w ≡ flat rounds
-  pub homes : All (AtHome w.home) rounds
+  pub homes : AllByRecursion (AtHome w.home) rounds
   pub steady : Steady w
 
 -- It has met each of n corners.

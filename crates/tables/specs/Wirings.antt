@@ -1,6 +1,6 @@
 -- What the tables layer leaves of tables that pass its checks.
 use Rattle.std.specs.Prelude.{◌≡◌, ℕ, ◌<◌, List, length, take, slice_index_or}
-use Rattle.std.specs.List.{AllByRecursion as All}
+use Rattle.std.specs.List.{AllByRecursion}
 use Rattle.solid.specs.Points.{Near}
 use Rattle.drawing.specs.Lists.{at, flat}
 use Rattle.drawing.specs.Homes.{AtHome}
@@ -37,4 +37,4 @@ pub record Wired (t : Tables) (w : Wiring) : Type 0 where
   pub order_within : (k : ℕ) → k < length t.corners → at (used t w.order) k < length t.corners
   pub home_size : length (used t w.home) ≡ length t.corners
   pub home_within : (k : ℕ) → k < length t.corners → at (used t w.home) k < length t.corners
-  pub homes : All (AtHome (used t w.home)) draws.linked.rounds
+  pub homes : AllByRecursion (AtHome (used t w.home)) draws.linked.rounds

@@ -17,7 +17,7 @@ use stored::table::Table;
 impl<'a, K: Kind> Catalogue<'a, K> {
     /// Opens a catalogue over a lent edge table, which may be of any length and hold anything.
     pub fn opened(edges: &'a mut [Edge<K::Label>]) -> Self
-        ensures empty { Holding label same result [] }
+        ensures empty { Holding K.Kind.label K.Kind.same result [] }
         ensures room { capacity_of result ≡ min (length edges.old) 4096 }
     {
         Catalogue {
@@ -42,7 +42,7 @@ impl<'a, K: Kind> Catalogue<'a, K> {
 
     /// Opens a listing of the pairings from the entry `i` to the entry `j`.
     pub fn list(&self, i: usize, j: usize) -> Result<Listing, Refusal>
-        ensures { (nets : List Net) → Holding label same self.now nets → Opening nets i j (standing_in result) }
+        ensures { (nets : List Net) → Holding K.Kind.label K.Kind.same self.now nets → Opening nets i j (standing_in result) }
     {
         self.entry(i, 1)?;
         self.entry(j, 2)?;
@@ -56,7 +56,7 @@ impl<'a, K: Kind> Catalogue<'a, K> {
 
     /// The first entry of the family of the entry `i`, and the next entry of the family, or 0.
     pub fn kin(&self, i: usize) -> Result<(usize, usize), Refusal>
-        ensures { (nets : List Net) → Holding label same self.now nets → Asking label same nets i result }
+        ensures { (nets : List Net) → Holding K.Kind.label K.Kind.same self.now nets → Asking K.Kind.label K.Kind.same nets i result }
     {
         let entry = self.entry(i, 1)?;
         Ok((entry.first, entry.next))
@@ -64,7 +64,7 @@ impl<'a, K: Kind> Catalogue<'a, K> {
 
     /// The lowest running number in the part of the edge `e` of the entry `i`.
     pub fn part(&self, i: usize, e: usize) -> Result<usize, Refusal>
-        ensures { (nets : List Net) → Holding label same self.now nets → Parting label same nets i e result }
+        ensures { (nets : List Net) → Holding K.Kind.label K.Kind.same self.now nets → Parting K.Kind.label K.Kind.same nets i e result }
     {
         let entry = self.entry(i, 1)?;
         if e == 0 || e > entry.edges {

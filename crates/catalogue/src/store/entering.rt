@@ -15,8 +15,9 @@ use joining::family::family_of;
 use joining::partaking::parts_of;
 use label::kind::Kind;
 use solid::Point;
+use stored::blanking::Blank;
 
-impl<'a, K: Kind> Catalogue<'a, K> {
+impl<'a, K: Kind + Blank> Catalogue<'a, K> {
     /// How many edges are free.
     fn free(&self) -> usize
         ensures { result ≡ capacity_of self.now - self.now.used }
@@ -28,7 +29,7 @@ impl<'a, K: Kind> Catalogue<'a, K> {
     fn add(&mut self, block: &Block)
         requires entries { length (entries_of self.old.register) < 64 }
         requires edges { edges (view block.now) ≤ capacity_of self.old - self.old.used }
-        ensures added { (nets : List Net) → Holding label same self.old nets → Checked (view block.now) → Holding label same self.new (nets ++ (view block.now ∷ [])) }
+        ensures added { (nets : List Net) → Holding K.Kind.label K.Kind.same self.old nets → Checked (view block.now) → Holding K.Kind.label K.Kind.same self.new (nets ++ (view block.now ∷ [])) }
         ensures count { length (entries_of self.new.register) ≡ length (entries_of self.old.register) + 1 }
         ensures size { length self.new.table.edges.now ≡ length self.old.table.edges.now }
     {
@@ -50,7 +51,7 @@ impl<'a, K: Kind> Catalogue<'a, K> {
         corners: &[Corner],
         faces: &[Face],
     ) -> Result<usize, Refusal>
-        ensures enters { (nets : List Net) → Holding label same self.old nets → Enters label same (capacity_of self.old) nets (tables points.now corners.now faces.now) result self.new }
+        ensures enters { (nets : List Net) → Holding K.Kind.label K.Kind.same self.old nets → Enters K.Kind.label K.Kind.same (capacity_of self.old) nets (tables points.now corners.now faces.now) result self.new }
         ensures room { capacity_of self.new ≡ capacity_of self.old }
         ensures refused { Unchanged self.old result self.new }
     {

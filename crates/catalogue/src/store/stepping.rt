@@ -49,7 +49,7 @@ impl<'a, K: Kind> Catalogue<'a, K> {
         images: &mut [usize],
         work: &mut [usize],
     ) -> Result<Step, Unmoved>
-        ensures step { (nets : List Net) → Holding label same self.now nets → Stepping label same nets (standing listing) (buffers images.old work.old) (stepped_in result) (buffers images.new work.new) }
+        ensures step { (nets : List Net) → Holding K.Kind.label K.Kind.same self.now nets → Stepping K.Kind.label K.Kind.same nets (standing listing) (buffers images.old work.old) (stepped_in result) (buffers images.new work.new) }
         ensures back { HandedBack listing result }
     {
         let (from, to) = match self.steppable(&listing, images.len(), work.len()) {
