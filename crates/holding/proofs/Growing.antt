@@ -1,15 +1,15 @@
 -- An edge table and its entries as a block is added.
-use Rattle.std.proofs.Common.{◌≡◌, ℕ, ◌+◌, ◌-◌, ◌<◌, ◌≤◌, Bool, ◌⊎◌, List, [], ◌∷◌, ◌++◌, length, get_or, take, set, Some, None, Option, sym, refl, ap, ◌∙◌, subst, inl, inr, arith, length-set, get_or-set_other, get_or-set_same}
+use Rattle.std.proofs.Common.{◌≡◌, ℕ, ◌+◌, ◌-◌, ◌<◌, ◌≤◌, Bool, ◌⊎◌, List, [], ◌∷◌, length, get_or, take, set, Some, None, Option, sym, refl, ap, ◌∙◌, inl, inr, arith, length-set, get_or-set_other, get_or-set_same}
 use Rattle.std.proofs.lemmas.List.{get_or_append_left, get_or_push, length_push}
 use Rattle.std.proofs.lemmas.Bool.{cases_lt, cases_eq}
 use Rattle.drawing.specs.Nets.{Net, edges}
 use Rattle.stored.specs.declared.record.Edge.{Edge}
 use Rattle.entries.specs.declared.record.Entry.{Entry}
 use Rattle.entries.specs.Chains.{no_entry, record_at, with_next}
-use Rattle.entries.specs.Views.{IsLast, begun, joined, AddedTo, joins, begins, Added}
-use Rattle.calls.specs.Entries.{entry, Known}
-use Rattle.holding.specs.Spans.{edges_of, Linked, Spanned}
-use Rattle.holding.specs.Held.{Holds, Held}
+use Rattle.entries.specs.Views.{begun, joined, AddedTo, joins, begins, Added}
+use Rattle.calls.specs.Entries.{Known}
+use Rattle.holding.specs.Spans.{Linked, Spanned}
+use Rattle.holding.specs.Held.{Held}
 use Rattle.holding.proofs.Keeping.{kept_at, kept_between}
 
 -- The entries stay where they are, and one more stands behind them.

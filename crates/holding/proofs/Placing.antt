@@ -9,7 +9,7 @@ use Rattle.entries.specs.declared.record.Entry.{Entry}
 use Rattle.entries.specs.Chains.{record_at}
 use Rattle.calls.specs.Entries.{entry, Known}
 use Rattle.holding.specs.Spans.{edges_of, Linked, Spanned}
-use Rattle.holding.specs.Held.{Holds, Held}
+use Rattle.holding.specs.Held.{Held}
 
 -- the record of an entry's edge is that of the table
 pub edge_at : {L : Type 0} (table : List (Edge L)) (r : Entry) (y : ℕ) (d : Edge L) → y < r.edges → get_or (edges_of table r) y d ≡ get_or table (r.start + y) d

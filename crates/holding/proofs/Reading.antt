@@ -1,5 +1,5 @@
 -- What the calls read of a catalogue that holds these blocks.
-use Rattle.std.proofs.Common.{◌≡◌, ℕ, ◌+◌, ◌-◌, ◌<◌, ◌≤◌, Bool, List, length, get_or, sym, ap, ◌∙◌, subst, arith}
+use Rattle.std.proofs.Common.{◌≡◌, ℕ, ◌+◌, ◌-◌, ◌≤◌, Bool, List, length, get_or, ap, ◌∙◌, arith}
 use Rattle.drawing.specs.Nets.{Net, edges}
 use Rattle.stored.specs.declared.record.Edge.{Edge}
 use Rattle.entries.specs.declared.record.Entry.{Entry}
@@ -7,7 +7,7 @@ use Rattle.entries.specs.Chains.{record_at}
 use Rattle.calls.specs.Entries as called
 use Rattle.calls.specs.Entries.{entry, Known}
 use Rattle.calls.specs.Answers.{Related, LowestInPart}
-use Rattle.holding.specs.Held.{Holds, Held}
+use Rattle.holding.specs.Held.{Held}
 
 module _ {L : Type 0} {label : Net → ℕ → L} {same : L → L → Bool} {table : List (Edge L)} {entries : List Entry} {nets : List Net} {used : ℕ} (h : Held label same table entries nets used) where
   pub known : {i : ℕ} → 1 ≤ i → i ≤ length entries → Known nets i

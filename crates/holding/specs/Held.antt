@@ -1,5 +1,5 @@
 -- What it is for a catalogue to hold these blocks, in this order: each net in the edge table, with its labels and parts, and each entry's family.
-use Rattle.std.specs.Prelude.{◌≡◌, ℕ, ◌+◌, ◌-◌, ◌<◌, Bool, List, length, take, slice_index_or}
+use Rattle.std.specs.Prelude.{◌≡◌, ℕ, ◌+◌, ◌-◌, Bool, List, length, take, slice_index_or}
 use Rattle.drawing.specs.Nets.{Net, edges}
 use Rattle.block.specs.Checked.{Checked}
 use Rattle.stored.specs.declared.record.Edge.{Edge}

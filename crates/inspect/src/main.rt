@@ -13,10 +13,15 @@ use std::io::BufReader;
 use std::process::ExitCode;
 use stop::Stop;
 
+/// Reads and follows all lines of standard input.
+fn read(rt: &HostRuntime, session: &mut Session) -> Result<(), Stop> {
+    session.read(rt, BufReader::new(rt.alloc(), rt.stdin())?)
+}
+
 /// Reads all lines and says what was done, also where a line stops it.
 fn run(rt: &HostRuntime) -> Result<(), Stop> {
     let mut session = Session::new(rt.alloc());
-    let end = session.read(rt, BufReader::new(rt.alloc(), rt.stdin())?);
+    let end = read(rt, &mut session);
     session.sum_up(rt)?;
     end
 }

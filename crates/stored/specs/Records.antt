@@ -1,5 +1,5 @@
 -- What the records of an edge table say of the net of a block.
-use Rattle.std.specs.Prelude.{◌≡◌, ℕ, ◌+◌, ◌<◌, ◌≤◌, List, length, get_or, take, slice_index_or}
+use Rattle.std.specs.Prelude.{◌≡◌, ℕ, ◌+◌, ◌<◌, List, length, get_or, take, slice_index_or}
 use Rattle.drawing.specs.Lists.{at}
 use Rattle.drawing.specs.Nets.{Net, no_point, edges, start, next, opposite, point_at}
 use Rattle.stored.specs.declared.record.Edge.{Edge}

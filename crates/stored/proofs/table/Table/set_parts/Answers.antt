@@ -1,7 +1,6 @@
-use Rattle.std.proofs.Common.{◌≡◌, ℕ, ◌+◌, ◌<◌, length, get_or, refl, ap, ◌∙◌, arith}
+use Rattle.std.proofs.Common.{◌≡◌, ◌+◌, ◌<◌, length, get_or, refl, ap, ◌∙◌, arith}
 use Rattle.std.proofs.lemmas.List.{get_or_default}
 use Rattle.drawing.specs.Lists.{at}
-use Rattle.stored.specs.declared.record.Edge.{Edge}
 use Rattle.stored.specs.Records.{with_part}
 use Rattle.stored.proofs.Writing.{size_kept, front_kept, written_more, unwritten_more}
 use Rattle.stored.proofs.table.Table.set_parts.Goals as goal
