@@ -1,4 +1,4 @@
 pub mod Measured
 pub mod Sameness
 pub mod Equals
-pub mod PairKindLemmas
+pub mod Halves

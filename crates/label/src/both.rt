@@ -2,7 +2,7 @@
 ghost use Rattle.std.specs.Prelude.{◌&&◌, ◌||◌};
 ghost use Rattle.std.proofs.Common.{inl, inr, rules};
 ghost use Rattle.label.specs.Equals.{both};
-ghost use Rattle.label.specs.PairKindLemmas.{one_of};
+ghost use Rattle.label.specs.Halves.{one_of};
 
 use crate::kind::Kind;
 use block::Block;

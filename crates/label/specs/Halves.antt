@@ -1,3 +1,4 @@
+-- Which half of a pair answers yes.
 use Rattle.std.specs.Prelude.{Bool, true, false, ◌||◌, T, ◌⊎◌}
 use Rattle.std.proofs.Common.{inl, inr}
 
