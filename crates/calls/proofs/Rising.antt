@@ -39,7 +39,7 @@ module _ (xs : List ℕ) (n bound : ℕ) (split : Split xs n bound) where
     | inr le ↦ omega (arith, split.within)
   ]
 
-  module _ (rising : Rising xs) (x : ℕ) (in_List : x ∈ xs) (far : bound ≤ x) (lowest : (y : ℕ) → y ∈ xs → bound ≤ y → y < x → ⊥) where
+  module _ (rising : Rising xs) (x : ℕ) (in_xs : x ∈ xs) (far : bound ≤ x) (lowest : (y : ℕ) → y ∈ xs → bound ≤ y → y < x → ⊥) where
     -- the lowest at the bound or beyond it stands next
     next_place : (s : Stands xs x) → s.place ≡ n
     next_place s = elim (cases_order s.place n) [
@@ -51,10 +51,10 @@ module _ (xs : List ℕ) (n bound : ℕ) (split : Split xs n bound) where
     ]
 
     pub next_within : n < length xs
-    next_within = let s = place_of xs x in_List in omega (arith, next_place s, s.within)
+    next_within = let s = place_of xs x in_xs in omega (arith, next_place s, s.within)
 
     pub next_is : at xs n ≡ x
-    next_is = let s = place_of xs x in_List in rw (next_place s) at s.is
+    next_is = let s = place_of xs x in_xs in rw (next_place s) at s.is
 
     pub split_next : Split xs (n + 1) (x + 1)
     split_next = record {
