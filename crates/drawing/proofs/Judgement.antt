@@ -2,7 +2,7 @@
 use Rattle.std.proofs.Common.{◌≡◌, ℕ, ◌+◌, ◌<◌, ◌≤◌, cond, eqb, length, sym, refl, ap, ◌∙◌, subst, inl, inr, arith}
 use Rattle.drawing.specs.declared.fault.Cause.{Cause}
 use Rattle.drawing.specs.declared.fault.Cause.TheVariants.{TableCount, Coordinate, BrokenChain, PointNumber, LoosePoint, DoublePoint, UnmatchedEdge, PinchedPoint, UnreachedEdge, BentFace, LevelFaces, NoVolume}
-use Rattle.drawing.specs.declared.fault.Fault.{Fault}
+use Rattle.drawing.specs.Causes.{Fault}
 use Rattle.drawing.specs.Causes.{number}
 use Rattle.drawing.specs.Lowest.{Lowest}
 use Rattle.drawing.specs.Nets.{Net, Matched, edges, starts_of}

@@ -4,5 +4,5 @@ pub mod Linking
 pub mod Lows
 pub mod Passing
 pub mod Judgement
-pub mod Copying
 pub mod Ranks
+pub mod Refusing

@@ -21,6 +21,12 @@ pub in_one : (x y : ℕ) → x ∈ (y ∷ []) → x ≡ y
 in_one x y (inl e) = e
 in_one x y (inr h) = absurd h
 
+pub in_last : (xs : List ℕ) (x : ℕ) → x ∈ (xs ++ (x ∷ []))
+in_last xs x = in_right x xs (x ∷ []) (inl refl)
+
+pub in_or_last : (xs : List ℕ) (y x : ℕ) → x ∈ (xs ++ (y ∷ [])) → (x ∈ xs) ⊎ (x ≡ y)
+in_or_last xs y x h = elim (in_cases x xs (y ∷ []) h) [ inl o ↦ inl o | inr l ↦ inr (in_one x y l) ]
+
 pub distinct_push : (xs : List ℕ) (x : ℕ) → Distinct xs → (x ∈ xs → ⊥) → Distinct (xs ++ (x ∷ []))
 distinct_push [] x d n = (λ h. h, tt)
 distinct_push (y ∷ xs) x d n = (

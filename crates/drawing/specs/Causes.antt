@@ -1,5 +1,6 @@
 -- The number and the layer of each cause of a refusal.
-use Rattle.std.specs.Prelude.{ℕ}
+use Rattle.std.specs.Prelude.{ℕ, List, codes}
+use Rattle.drawing.specs.declared.fault.Located.{Located}
 use Rattle.drawing.specs.declared.fault.Cause.{Cause}
 use Rattle.drawing.specs.declared.fault.Cause.TheVariants.{TableCount, Coordinate, BrokenChain, PointNumber, LoosePoint, DoublePoint, UnmatchedEdge, PinchedPoint, UnreachedEdge, BentFace, LevelFaces, NoVolume}
 use Rattle.drawing.specs.declared.fault.Layer.{Layer}
@@ -32,3 +33,12 @@ layer UnreachedEdge = Tables
 layer BentFace = Shape
 layer LevelFaces = Shape
 layer NoVolume = Shape
+
+-- the layer as it is written
+abbrev pub layer_name : Layer → List ℕ
+layer_name Tables = codes "tables"
+layer_name Shape = codes "shape"
+
+-- a refusal of a drawing
+abbrev pub Fault : Type 0
+Fault = Located Cause

@@ -4,6 +4,8 @@ use Rattle.solid.specs.declared.Point.{Point}
 use Rattle.solid.specs.declared.Vector.{Vector}
 use Rattle.solid.specs.Points.{between, place, volume}
 use Rattle.drawing.specs.declared.record.Corner.{Corner}
+use Rattle.drawing.specs.declared.step.Step.{Step}
+use Rattle.drawing.specs.declared.step.Step.TheVariants.{Along, Across}
 use Rattle.drawing.specs.Lists.{at}
 
 abbrev pub no_point : Point
@@ -41,11 +43,6 @@ pub record Matched (starts next : List ℕ) (e : ℕ) : Type 0 where
   pub there : Once (length starts) (Runs starts next (at starts e) (at starts (at next e)))
   pub back : Once (length starts) (Runs starts next (at starts (at next e)) (at starts e))
 
--- A step from an edge: to its next edge, or to its opposite.
-pub data Step : Type 0 where
-  along : Step
-  across : Step
-
 module _ (m : Net) where
   abbrev pub edges : ℕ
   edges = length m.starts
@@ -64,8 +61,8 @@ module _ (m : Net) where
 
   -- where a list of steps leads
   abbrev pub step : Step → ℕ → ℕ
-  step along e = next e
-  step across e = opposite e
+  step Along e = next e
+  step Across e = opposite e
 
   abbrev pub leads : List Step → ℕ → ℕ
   leads [] e = e

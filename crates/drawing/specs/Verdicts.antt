@@ -6,7 +6,7 @@ use Rattle.drawing.specs.declared.record.Corner.{Corner}
 use Rattle.drawing.specs.declared.record.Face.{Face}
 use Rattle.drawing.specs.declared.fault.Cause.{Cause}
 use Rattle.drawing.specs.declared.fault.Cause.TheVariants.{TableCount, Coordinate, BrokenChain, PointNumber, LoosePoint, DoublePoint, UnmatchedEdge, PinchedPoint, UnreachedEdge, BentFace, LevelFaces, NoVolume}
-use Rattle.drawing.specs.declared.fault.Fault.{Fault}
+use Rattle.drawing.specs.Causes.{Fault}
 use Rattle.drawing.specs.Causes.{number}
 use Rattle.drawing.specs.Lowest.{Lowest}
 use Rattle.drawing.specs.Lists.{◌∈◌, flat}

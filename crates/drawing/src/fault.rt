@@ -1,6 +1,9 @@
 // What is wrong with a drawing, and where.
-ghost use Rattle.std.specs.Prelude.{◌≡◌};
-ghost use Rattle.drawing.specs.Causes.{number, layer};
+ghost use Rattle.std.specs.Prelude.{◌≡◌, ◌+◌, ◌<◌, ◌^◌, Some, IfSome};
+ghost use Rattle.drawing.specs.Causes.{number, layer, layer_name};
+ghost use Rattle.drawing.specs.Lowest.{refusal};
+
+use std::fmt;
 
 /// The group of checks that a refusal belongs to.
 #[derive(Clone, Copy, PartialEq, Eq, Debug)]
@@ -9,10 +12,21 @@ pub enum Layer {
     Shape,
 }
 
-/// What a refusal says, in the order of the checks.
+impl fmt::Display for Layer {
+    ghost output = { λ x. Some (layer_name x) };
+
+    fn fmt<W: fmt::Write>(&self, f: &mut fmt::Formatter<W>) -> fmt::Result {
+        match self {
+            Layer::Tables => f.write_str("tables"),
+            Layer::Shape => f.write_str("shape"),
+        }
+    }
+}
+
+/// What a refusal says, in the order of the checks, which are numbered from 1.
 #[derive(Clone, Copy, PartialEq, Eq, Debug)]
 pub enum Cause {
-    TableCount,
+    TableCount = 1,
     Coordinate,
     BrokenChain,
     PointNumber,
@@ -31,22 +45,10 @@ impl Cause {
     pub fn number(self) -> u8
         ensures { result ≡ number self }
     {
-        match self {
-            Cause::TableCount => 1,
-            Cause::Coordinate => 2,
-            Cause::BrokenChain => 3,
-            Cause::PointNumber => 4,
-            Cause::LoosePoint => 5,
-            Cause::DoublePoint => 6,
-            Cause::UnmatchedEdge => 7,
-            Cause::PinchedPoint => 8,
-            Cause::UnreachedEdge => 9,
-            Cause::BentFace => 10,
-            Cause::LevelFaces => 11,
-            Cause::NoVolume => 12,
-        }
+        self as u8
     }
 
+    /// The layer of the check.
     pub fn layer(self) -> Layer
         ensures { result ≡ layer self }
     {
@@ -57,10 +59,31 @@ impl Cause {
     }
 }
 
-/// A refusal: its cause, which gives its number and its layer, and its place.
+/// What is wrong, and where. What can be wrong is an enum of each layer's own.
+// A rule of the project: tables and places are the works' numbers, from 1, and 0 is none.
 #[derive(Clone, Copy, PartialEq, Eq, Debug)]
-pub struct Fault {
-    pub cause: Cause,
+pub struct Located<C> {
+    pub cause: C,
     /// the number of the record that is wrong, or 0 where no one record is
     pub place: usize,
+}
+
+/// A refusal of a drawing.
+pub type Fault = Located<Cause>;
+
+impl<C: Copy> Located<C> {
+    /// Refuses the record at this index, the first that is wrong, if there is one.
+    /// For the crates above: its number is to fit a place.
+    pub fn refuse_first(cause: C, index: Option<usize>) -> Result<(), Self>
+        requires { IfSome index (λ k. k + 1 < 2 ^ 64) }
+        ensures { result ≡ refusal cause index }
+    {
+        match index {
+            Some(k) => Err(Located {
+                cause,
+                place: k + 1,
+            }),
+            None => Ok(()),
+        }
+    }
 }

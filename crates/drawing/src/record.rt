@@ -1,4 +1,4 @@
-// The records of the tables. A table is numbered from 1, and the number 0 names no record.
+// The records of the tables. A table is numbered from 1, and the number 0 names no record: a rule of the project, whose drafters write these numbers.
 
 /// A corner of a face, which is also the directed edge from its point to that of the next corner.
 #[derive(Clone, Copy)]

@@ -7,7 +7,8 @@ ghost use Rattle.solid.specs.Points.{Near, Far, between, place, dot, volume};
 ghost use Rattle.solid.specs.Limits.{greatest_dot, greatest_volume};
 
 /// A point, in whole millimetres.
-#[derive(Clone, Copy, PartialEq, Eq)]
+// That it is near is said in clauses too: one of a raw table may lie anywhere.
+#[derive(Clone, Copy, PartialEq, Eq, Default)]
 pub struct Point {
     pub x: i64,
     pub y: i64,
@@ -15,6 +16,7 @@ pub struct Point {
 }
 
 /// A difference of two points.
+// How large its coordinates are is said in clauses, and not by its type: who writes one by its fields owes nothing.
 #[derive(Clone, Copy)]
 pub struct Vector {
     pub x: i64,

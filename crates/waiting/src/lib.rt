@@ -1,51 +1,65 @@
 //! A waiting list in lent slots: the last in is the first out.
 #![tactic(auto)]
 
-ghost use Rattle.std.specs.Prelude.{◌≡◌, ◌+◌, ◌≤◌, [], ◌∷◌, ◌++◌, length, take, if◌then◌else◌, MatchOption, nat_lt};
-ghost use Rattle.std.specs.Option.{option_to_list};
+ghost use Rattle.std.specs.Prelude.{◌≡◌, ◌<◌, ◌≤◌, [], ◌∷◌, ◌++◌, length, MatchOption, MatchResult};
+
+use std::marker::Model;
 
 /// What waits stands in the first `len` slots, in the order in which it came.
+// A slice with a length: a rule of the project wants one list over any lent slots, and the room of an `ArrayVec` is a constant of its type.
 #[derive(Drop)]
 pub struct Waiting<'a, T: Copy> {
-    slots: &'a mut [T],
+    lent: &'a mut [T],
     len: usize,
-    ghost within: { len ≤ length slots.now },
+}
+
+impl<'a, T: Copy> Model for Waiting<'a, T> {
+    ghost use Rattle.std.specs.Prelude.{◌≤◌, length, take};
+    ghost use Rattle.waiting.specs.Held.{Held};
+
+    ghost Value = { Held T };
+
+    ghost view = { λ w. record { items = take w.len w.lent.now; slots = length w.lent.now } };
+
+    ghost invariant = { λ w. w.len ≤ length w.lent.now };
 }
 
 impl<'a, T: Copy> Waiting<'a, T> {
     /// An empty list, with room for as many as there are slots.
     pub fn new(slots: &'a mut [T]) -> Self
-        ensures empty { result.len ≡ 0 }
-        ensures room { length result.slots.now ≡ length slots.old }
+        ensures empty { result.items ≡ [] }
+        ensures slots { result.slots ≡ length slots.old }
     {
-        Waiting { slots, len: 0 }
+        Waiting {
+            lent: slots,
+            len: 0,
+        }
     }
 
-    /// Has `item` wait, and answers whether there was room for it.
-    pub fn push(&mut self, item: T) -> bool
-        ensures answer { result ≡ nat_lt self.old.len (length self.old.slots.now) }
-        ensures items { take self.new.len self.new.slots.now ≡ (if result then take self.old.len self.old.slots.now ++ (item ∷ []) else take self.old.len self.old.slots.now) }
-        ensures len { self.new.len ≡ (if result then self.old.len + 1 else self.old.len) }
-        ensures room { length self.new.slots.now ≡ length self.old.slots.now }
+    /// Has `item` wait, or hands it back where there is no room.
+    pub fn push(&mut self, item: T) -> Result<(), T>
+        ensures room { MatchResult result (λ _. length self.old.items < self.old.slots) (λ _. length self.old.items ≡ self.old.slots) }
+        ensures items { MatchResult result (λ _. self.new.items ≡ self.old.items ++ (item ∷ [])) (λ back. (back ≡ item) × (self.new.items ≡ self.old.items)) }
+        ensures slots { self.new.slots ≡ self.old.slots }
     {
-        if self.len >= self.slots.len() {
-            return false;
+        if self.len >= self.lent.len() {
+            return Err(item);
         }
-        self.slots[self.len] = item;
+        self.lent[self.len] = item;
         self.len += 1;
-        true
+        Ok(())
     }
 
     /// Takes out what came in last.
     pub fn pop(&mut self) -> Option<T>
-        ensures items { take self.old.len self.old.slots.now ≡ take self.new.len self.new.slots.now ++ option_to_list result }
-        ensures len { MatchOption result ((self.old.len ≡ 0) × (self.new.len ≡ 0)) (λ _. self.new.len + 1 ≡ self.old.len) }
-        ensures room { length self.new.slots.now ≡ length self.old.slots.now }
+        ensures items { MatchOption result ((self.old.items ≡ []) × (self.new.items ≡ [])) (λ item. self.old.items ≡ self.new.items ++ (item ∷ [])) }
+        ensures slots { self.new.slots ≡ self.old.slots }
+        ensures within { length self.old.items ≤ self.old.slots }
     {
         if self.len == 0 {
             return None;
         }
         self.len -= 1;
-        Some(self.slots[self.len])
+        Some(self.lent[self.len])
     }
 }
