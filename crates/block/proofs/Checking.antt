@@ -1,10 +1,8 @@
 -- From the two layers to the verdict and the checked block.
-use Rattle.std.proofs.Common.{◌≡◌, ℕ, ◌-◌, ◌<◌, ◌≤◌, List, length, take, Some, None, Option, sym, refl, ap, ◌∙◌, subst, inl, inr, arith}
+use Rattle.std.proofs.Common.{◌≡◌, ℕ, ◌-◌, ◌<◌, ◌≤◌, List, length, Some, None, Option, sym, refl, ap, ◌∙◌, subst, inl, inr, arith}
 use Rattle.std.proofs.lemmas.List.{get_or-map, length-map}
 use Rattle.std.proofs.lemmas.Bool.{cases_order}
-use Rattle.solid.specs.declared.Point.{Point}
-use Rattle.drawing.specs.declared.record.Corner.{Corner}
-use Rattle.drawing.specs.declared.fault.Fault.{Fault}
+use Rattle.drawing.specs.Causes.{Fault}
 use Rattle.drawing.specs.declared.fault.Cause.TheVariants.{BentFace, LevelFaces, NoVolume}
 use Rattle.drawing.specs.Chains.{no_corner}
 use Rattle.drawing.specs.Nets.{Net, starts_of, marks_of, edges, start, point_at}
@@ -13,12 +11,11 @@ use Rattle.drawing.proofs.Linking.{next_onto}
 use Rattle.drawing.proofs.Passing.{passes_flat, passes_level, passes_volume}
 use Rattle.drawing.proofs.Judgement.{below_more, sound_below, refused_below, refused_once, sound_not_refused}
 use Rattle.tables.specs.declared.wiring.Wiring.{Wiring}
-use Rattle.tables.specs.Wirings.{net_of, used, Wired}
+use Rattle.tables.specs.Wirings.{net_of, Wired}
 use Rattle.tables.proofs.Passed.{edges_are, all_matched, wired_passes}
 use Rattle.shape.specs.Edges.{shown, Placed, EdgeList}
 use Rattle.shape.specs.Wedges.{Listed}
 use Rattle.shape.specs.Shapes.{Shaped, ShapeRefused, bent, level, hollow}
-use Rattle.block.specs.Checked as spec
 use Rattle.block.specs.Checked.{Checked, Leaves, Previous, net_from}
 use Rattle.block.specs.Views.{Verdict}
 
@@ -29,27 +26,27 @@ module _ (t : Tables) (w : Wiring) (h : Wired t w) where
   pub placed : Placed t.points (starts_of t.corners)
   placed = record { near = h.near; start_within = h.mesh.start_within }
 
-  pub nexts : EdgeList (length (starts_of t.corners)) (used t w.next)
+  pub nexts : EdgeList (length (starts_of t.corners)) w.next.items
   nexts = record { size = h.mesh.next_size; within = h.mesh.next_within }
 
-  pub opposites : EdgeList (length (starts_of t.corners)) (used t w.opposite)
+  pub opposites : EdgeList (length (starts_of t.corners)) w.opposite.items
   opposites = record { size = h.mesh.opposite_size; within = h.mesh.opposite_within }
 
-  pub orders : EdgeList (length (starts_of t.corners)) (used t w.order)
+  pub orders : EdgeList (length (starts_of t.corners)) w.order.items
   orders = rw (edges_are t w h) (record { size = h.order_size; within = h.order_within })
 
-  pub homes : EdgeList (length (starts_of t.corners)) (used t w.home)
+  pub homes : EdgeList (length (starts_of t.corners)) w.home.items
   homes = rw (edges_are t w h) (record { size = h.home_size; within = h.home_within })
 
   pub few : length (starts_of t.corners) ≤ 480
   few = omega (arith, edges_are t w h, h.counts.corners_to)
 
-  pub listed : Listed (used t w.next) (used t w.order) (used t w.home) h.draws.linked.rounds
+  pub listed : Listed w.next.items w.order.items w.home.items h.draws.linked.rounds
   listed = record { order_is = h.order_is; goes_round = h.draws.linked.goes_round; homes = h.homes }
 
   -- the same net, without its marks
   abbrev plain : Net
-  plain = shown t.points (starts_of t.corners) (used t w.next) (used t w.opposite)
+  plain = shown t.points (starts_of t.corners) w.next.items w.opposite.items
 
   pub shape_refused : (f : Fault) → ShapeRefused plain h.draws.linked.rounds f → Refused t f
   shape_refused f (bent r) =
@@ -90,7 +87,7 @@ module _ (t : Tables) (w : Wiring) (h : Wired t w) where
 
     before : (f : ℕ) → f < edges m → Previous m f
     before f lt =
-        let b = next_onto t.corners t.faces (used t w.next) h.draws.linked f (omega (arith, edges_are t w h)) in
+        let b = next_onto t.corners t.faces w.next.items h.draws.linked f (omega (arith, edges_are t w h)) in
         record { edge = b.0; within = omega (arith, edges_are t w h, b.1); leads = b.2 }
 
     of_net : Checked m
@@ -117,31 +114,11 @@ module _ (t : Tables) (w : Wiring) (h : Wired t w) where
     }
 
     pub checked : Checked (net_from t.points t.corners w)
-    checked = subst (λ (starts : List ℕ). Checked (record { points = t.points; starts = starts; marks = marks_of t.corners; next = used t w.next; opposite = used t w.opposite })) (sym h.starts_are) of_net
+    checked = subst (λ (starts : List ℕ). Checked (record { points = t.points; starts = starts; marks = marks_of t.corners; next = w.next.items; opposite = w.opposite.items })) (sym h.starts_are) of_net
 
     -- and the block that holds it is drawn by the tables
     pub drawn : Draws t (net_from t.points t.corners w)
-    drawn = subst (λ (starts : List ℕ). Draws t (record { points = t.points; starts = starts; marks = marks_of t.corners; next = used t w.next; opposite = used t w.opposite })) (sym h.starts_are) h.draws
-
--- The tables of a block, filled.
-module _ (ps : List Point) (cs : List Corner) (w : Wiring) where
-  pub assembled : (points : List Point) (marks : List ℕ) → take (length ps) points ≡ ps → take (length cs) marks ≡ marks_of cs
-      → spec.net_of points (length ps) w.starts marks w.next w.opposite (length cs) ≡ net_from ps cs w
-  assembled points marks p m = λ i. record {
-    points = p i;
-    starts = take (length cs) w.starts;
-    marks = m i;
-    next = take (length cs) w.next;
-    opposite = take (length cs) w.opposite;
-  }
-
-  module _ (c : Checked (net_from ps cs w)) where
-    -- as many edges as marks, and so as corners
-    pub edges_filled : length cs ≡ length (take (length cs) w.starts)
-    edges_filled = sym (length-map cs (λ d. d.mark)) ∙ c.marks_size
-
-    pub few_corners : length cs ≤ 480
-    few_corners = omega (arith, edges_filled, c.edges_to)
+    drawn = subst (λ (starts : List ℕ). Draws t (record { points = t.points; starts = starts; marks = marks_of t.corners; next = w.next.items; opposite = w.opposite.items })) (sym h.starts_are) h.draws
 
 -- exactly one verdict
 module _ (t : Tables) where

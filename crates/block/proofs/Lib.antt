@@ -1,3 +1,2 @@
 mod Checking
-pub mod Laws
 mod Tabled

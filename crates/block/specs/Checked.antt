@@ -1,15 +1,10 @@
 -- What holds of the net of every checked block.
-use Rattle.std.specs.Prelude.{◌≡◌, ℕ, ◌<◌, ◌≤◌, ◌≢◌, List, length, take, pos}
+use Rattle.std.specs.Prelude.{◌≡◌, ℕ, ◌<◌, ◌≤◌, ◌≢◌, List, length, pos}
 use Rattle.solid.specs.declared.Point.{Point}
 use Rattle.solid.specs.Points.{Near}
 use Rattle.drawing.specs.declared.record.Corner.{Corner}
 use Rattle.tables.specs.declared.wiring.Wiring.{Wiring}
 use Rattle.drawing.specs.Nets.{Net, marks_of, Mesh, edges, start, end, next, opposite, point_at, Whole, Reached, bend, fold}
-
--- the net of tables of which the first places are used
-abbrev pub net_of : List Point → ℕ → (starts marks next opposite : List ℕ) → ℕ → Net
-net_of points vertices starts marks next opposite n =
-    record { points = take vertices points; starts = take n starts; marks = take n marks; next = take n next; opposite = take n opposite }
 
 -- Some edge leaves the point q.
 pub record Leaves (m : Net) (q : ℕ) : Type 0 where
@@ -51,6 +46,4 @@ pub record Checked (m : Net) : Type 0 where
 
 -- the net of these points, the marks of these corners, and this wiring
 abbrev pub net_from : List Point → List Corner → Wiring → Net
-net_from ps cs w =
-    let n = length cs in
-    record { points = ps; starts = take n w.starts; marks = marks_of cs; next = take n w.next; opposite = take n w.opposite }
+net_from ps cs w = record { points = ps; starts = w.starts.items; marks = marks_of cs; next = w.next.items; opposite = w.opposite.items }

@@ -1,3 +1,2 @@
-mod Tests
 mod Sums
 mod Fans

@@ -1,31 +1,48 @@
--- Sums over lists of edges.
-use Rattle.std.proofs.Common.{◌≡◌, ℕ, ◌+◌, ◌*◌, ◌<◌, ◌≤◌, List, [], ◌∷◌, ◌++◌, length, get_or, take, ℤ, ◌+ℤ◌, nat_abs, sym, ap, ◌∙◌, arith, to_z-of_z, w64, SFits, to_z, of_z}
+-- Sums of integers over lists.
+use Rattle.std.proofs.Common.{◌≡◌, ℕ, ◌+◌, ◌*◌, ◌^◌, ◌<◌, ◌≤◌, List, [], ◌∷◌, ◌++◌, length, map, ℤ, pos, ◌+ℤ◌, nat_abs, Bor, ap, ◌∙◌, subst, arith, w64, FitsSigned}
 use borrow.Author.Differences.{ints}
-use Rattle.std.proofs.lemmas.List.{take_more}
+use Rattle.std.specs.declared.iter.Map.{Map}
+use Rattle.std.specs.declared.slice.Iter.{Iter}
+use Rattle.std.specs.Fn.{Called}
+use Rattle.std.specs.Iterator.{Yields}
+use Rattle.std.specs.Iterator.Adapters.{map_steps, map_callee, map_source}
+use Rattle.std.specs.Iterator.Runs.{EachRunFrom, YieldsRun}
+use Rattle.std.specs.List.{fold}
+use Rattle.std.specs.Slice.Iter.{iter_rest}
+use Rattle.std.proofs.iter.Yields.{fronts}
+use denote.Param.Members.{Mut}
 use Rattle.algebra.proofs.Machine.{fits_abs}
-use Rattle.solid.specs.Limits.{greatest_volume}
-use Rattle.shape.specs.Wedges.{summed}
+
+-- the sum of f over a list
+abbrev pub summed : (ℕ → ℤ) → List ℕ → ℤ
+summed f [] = pos 0
+summed f (k ∷ ks) = f k +ℤ summed f ks
 
 pub summed_append : (f : ℕ → ℤ) (xs ys : List ℕ) → summed f (xs ++ ys) ≡ summed f xs +ℤ summed f ys
 summed_append f [] ys = omega (arith, ints)
 summed_append f (x ∷ xs) ys = rw (summed_append f xs ys) (omega (arith, ints))
 
-summed_more : (f : ℕ → ℤ) (xs : List ℕ) (i : ℕ) → i < length xs → summed f (take (i + 1) xs) ≡ summed f (take i xs) +ℤ f (get_or xs i 0)
-summed_more f xs i h = rw (take_more xs i 0 h, summed_append f (take i xs) (get_or xs i 0 ∷ [])) (omega (arith, ints))
+fold_summed : (f : ℕ → ℤ) (a : ℤ) (xs : List ℕ) → fold ◌+ℤ◌ a (map f xs) ≡ a +ℤ summed f xs
+fold_summed f a [] = omega (arith, ints)
+fold_summed f a (x ∷ xs) = rw (fold_summed f (a +ℤ f x) xs) (omega (arith, ints))
 
--- The sum t of the first i of at most 480 volumes, to which the next one, w, is added.
-module _ (f : ℕ → ℤ) (xs : List ℕ) (i : ℕ) {t w : ℤ} (sum : t ≡ summed f (take i xs)) (one : w ≡ f (get_or xs i 0)) (sum-size : nat_abs t ≤ greatest_volume * i) (one_size : nat_abs w ≤ greatest_volume) (within : i < length xs) (few : length xs ≤ 480) where
-  read : to_z w64 (of_z w64 w) ≡ w
-  read = to_z-of_z (fits_abs w64 w (omega arith))
+-- what `sum` says of it
+pub total_summed : (f : ℕ → ℤ) (xs : List ℕ) → fold ◌+ℤ◌ (pos 0) (map f xs) ≡ summed f xs
+total_summed f xs = fold_summed f (pos 0) xs ∙ omega (arith, ints)
 
-  size : nat_abs (t +ℤ w) ≤ greatest_volume * (i + 1)
-  size = omega (arith, ints)
+-- Over the elements of a list, f gives integers of this size at most.
+module _ {A F : Type 0} {g : Mut F (Bor A × Unit {0}) ℤ} (f : F) (most : ℕ) (each : (x : Bor A) (r : ℤ) (q : F) → Called g f (x, tt) r q → (q ≡ f) × (nat_abs r ≤ most)) where
+  sum_at_most : (rs : List ℤ) (a : ℤ) (s t : Map (Iter A) F) → map_callee s ≡ f → Yields (map_steps fronts g) s rs t → nat_abs (fold ◌+ℤ◌ a rs) ≤ nat_abs a + most * length (iter_rest (map_source s))
+  sum_at_most [] a s t e y = omega arith
+  sum_at_most (r ∷ rs) a s t e y =
+      let c = each y.1.0 r _ (subst (λ h. Called g h (y.1.0, tt) r (map_callee y.0)) e y.1.2) in
+      let one : nat_abs (a +ℤ r) ≤ nat_abs a + nat_abs r = omega (arith, ints) in
+      let rest : most * length (iter_rest (map_source s)) ≡ most + most * length (iter_rest (map_source y.0)) = rw (ap length y.1.1) (omega arith) in
+      omega (arith, sum_at_most rs (a +ℤ r) y.0 t c.0 y.2, c.1, one, rest)
 
-  pub more_fits : SFits w64 (t +ℤ to_z w64 (of_z w64 w))
-  more_fits = rw read (fits_abs w64 (t +ℤ w) (let s = size in omega arith))
-
-  value : to_z w64 (of_z w64 (t +ℤ to_z w64 (of_z w64 w))) ≡ t +ℤ w
-  value = to_z-of_z more_fits ∙ ap (λ (z : ℤ). t +ℤ z) read
-
-  pub more_is : (to_z w64 (of_z w64 (t +ℤ to_z w64 (of_z w64 w))) ≡ summed f (take (i + 1) xs)) × (nat_abs (to_z w64 (of_z w64 (t +ℤ to_z w64 (of_z w64 w)))) ≤ greatest_volume * (i + 1))
-  more_is = (value ∙ rw (sum, one) (sym (summed_more f xs i within)), rw value size)
+  -- what `sum` asks after `map`
+  pub sum_fits : (s : Map (Iter A) F) → map_callee s ≡ f → most * length (iter_rest (map_source s)) < 2 ^ 63 → EachRunFrom (map_steps fronts g) s (λ p. FitsSigned w64 (fold ◌+ℤ◌ (pos 0) p.items))
+  unfolding YieldsRun
+  sum_fits s e small p _ from =
+      let run = subst (λ u. Yields (map_steps fronts g) u p.items p.gave.0.0) from p.gave.0.1 in
+      fits_abs w64 (fold ◌+ℤ◌ (pos 0) p.items) (omega (arith, sum_at_most p.items (pos 0) s p.gave.0.0 e run, small))

@@ -1,3 +1,4 @@
 pub mod Edges
 pub mod Wedges
 pub mod Shapes
+pub mod Views

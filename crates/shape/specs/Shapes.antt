@@ -1,6 +1,6 @@
 -- What the shape layer establishes, or which of its checks fails first.
 use Rattle.std.specs.Prelude.{◌≡◌, ℕ, ◌<◌, List, pos, ◌<ℤ◌, ◌≢◌}
-use Rattle.drawing.specs.declared.fault.Fault.{Fault}
+use Rattle.drawing.specs.Causes.{Fault}
 use Rattle.drawing.specs.declared.fault.Cause.TheVariants.{BentFace, LevelFaces}
 use Rattle.drawing.specs.Lowest.{RefusedAt}
 use Rattle.drawing.specs.Nets.{Net, edges, bend, fold, content}

@@ -2,7 +2,4 @@
 //! The edges come as lists: the start, the next edge and the opposite of each.
 #![tactic(auto)]
 
-mod edges;
-mod enclosed;
-mod faces;
-pub mod shaping;
+pub mod edges;

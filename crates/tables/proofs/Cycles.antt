@@ -1,5 +1,5 @@
 -- Steps of a function that permutes the numbers below n, and the marks of what it leads to.
-use Rattle.std.proofs.Common.{◌≡◌, ℕ, zero, suc, ◌+◌, ◌-◌, ◌*◌, ◌<◌, Bool, true, false, ◌⊎◌, List, length, set, sym, refl, ap, ◌∙◌, inl, inr, suc-mul, suc-add, zero-add, zero-mul, le-mul_of_pos_right, add-one, arith, below_none, below_more}
+use Rattle.std.proofs.Common.{◌≡◌, ℕ, zero, suc, ◌+◌, ◌-◌, ◌*◌, ◌<◌, Bool, true, false, ◌⊎◌, List, length, set, sym, refl, ap, ◌∙◌, inl, inr, suc-mul, suc-add, zero-add, zero-mul, le-mul_of_pos_right, add-one, arith, below_more}
 use Rattle.std.proofs.lemmas.Bool.{cases_lt, both_ways}
 use Rattle.tables.specs.Marked.{mark}
 use Rattle.tables.specs.Turns.{times, Permutes, Rounded}
@@ -47,15 +47,6 @@ module _ (f : ℕ → ℕ) where
     pub stays : (d : ℕ) → mark before d ≡ true → mark after d ≡ true
     pub marked : (i : ℕ) → i < steps → mark after (times f i first) ≡ true
     pub only : (d : ℕ) → mark after d ≡ true → (mark before d ≡ true) ⊎ ((i : ℕ) × (i < steps) × (times f i first ≡ d))
-
-  pub going_starts : (first : ℕ) (before : List Bool) → Going first before before first
-  going_starts first before = record {
-    steps = 0;
-    here = refl;
-    stays = λ d h. h;
-    marked = below_none _;
-    only = λ d h. inl h;
-  }
 
   pub going_on : (first e : ℕ) (before after : List Bool) → e < length after → Going first before after e → Going first before (set after e true) (f e)
   going_on first e before after h g = record {

@@ -1,17 +1,8 @@
 -- Edges that have their opposites.
-use Rattle.std.proofs.Common.{◌≡◌, ℕ, ◌<◌, ◌≤◌, List, length, take, sym, refl, ◌∙◌, arith}
-use Rattle.std.proofs.lemmas.List.{length-take-le, get_or-take}
+use Rattle.std.proofs.Common.{◌≡◌, ℕ, ◌<◌, length, sym, refl, ◌∙◌}
 use Rattle.drawing.specs.Lists.{at}
 use Rattle.drawing.specs.Nets.{Net, Mesh}
-use Rattle.tables.specs.Pairs.{Faces}
 use Rattle.tables.specs.Stages.{Seamed, Joined}
-
--- opposites in the first places of a list
-pub joined_take : (starts next list : List ℕ) → length starts ≤ 480 → length list ≡ 480 → ((e : ℕ) → e < length starts → Faces starts next e (at list e)) → Joined starts next (take (length starts) list)
-joined_take starts next list few size each = record {
-  size = length-take-le (length starts) list (omega arith);
-  each = λ e lt. rw (get_or-take (length starts) list e 0 lt) (each e lt);
-}
 
 module _ (points : ℕ) (m : Net) (s : Seamed points m.starts m.next) (j : Joined m.starts m.next m.opposite) where
   -- the opposite of the opposite runs as the edge does, and just one edge does

@@ -2,7 +2,7 @@
 use Rattle.std.proofs.Common.{◌≡◌, ℕ, ◌<◌, ◌≤◌, Bool, true, false, List, Result, inl, inr, arith}
 use Rattle.std.proofs.lemmas.Result.{MatchResult-weaker}
 use Rattle.drawing.specs.declared.fault.Cause.{Cause}
-use Rattle.drawing.specs.declared.fault.Fault.{Fault}
+use Rattle.drawing.specs.Causes.{Fault}
 use Rattle.drawing.specs.Lowest.{Judges}
 use Rattle.tables.specs.Marked.{mark, Marks}
 use Rattle.std.proofs.lemmas.Bool.{cases_Bool}

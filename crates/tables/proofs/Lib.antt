@@ -1,5 +1,7 @@
+mod Pushing
 mod Meeting
 mod Stepping
+mod Counting
 mod Completing
 pub mod Marking
 mod Judging
@@ -11,6 +13,5 @@ mod Turning
 mod Searching
 mod Joining
 mod Meshing
-mod Counting
 mod Wholly
 pub mod Passed

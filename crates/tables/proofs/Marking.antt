@@ -1,6 +1,6 @@
 -- A mark is set, the others stay.
 use Rattle.std.proofs.Common.{◌≡◌, ℕ, zero, suc, ◌+◌, ◌<◌, Bool, true, false, ◌⊎◌, List, [], ◌∷◌, length, set, replicate, refl, inl, inr, le_of_suc-le-suc, arith, get_or-set_other, get_or-set_same}
-use Rattle.std.proofs.lemmas.List.{get_or_past, set-get_or}
+use Rattle.std.proofs.lemmas.List.{get_or_past}
 use Rattle.std.proofs.lemmas.Bool.{cases_eq, cases_lt, both_ways}
 use Rattle.tables.specs.Marked.{mark, unmarked}
 
@@ -22,10 +22,6 @@ marked_stays ms i k h =
 -- What is marked now was marked, or is the one whose mark was set.
 pub marked_cases : (ms : List Bool) (i k : ℕ) → mark (set ms i true) k ≡ true → (k ≡ i) ⊎ (mark ms k ≡ true)
 marked_cases ms i k h = elim (cases_eq k i) [ inl e ↦ inl e | inr ne ↦ inr (rw get_or-set_other at h) ]
-
--- To mark what has its mark changes nothing.
-pub marked_again : (ms : List Bool) (i : ℕ) → mark ms i ≡ true → set ms i true ≡ ms
-marked_again ms i h = rw h at (set-get_or ms i false)
 
 -- One mark more leaves one fewer without.
 pub unmarked_fewer : (ms : List Bool) (i : ℕ) → i < length ms → mark ms i ≡ false → unmarked (set ms i true) + 1 ≡ unmarked ms

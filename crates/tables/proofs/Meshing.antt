@@ -6,7 +6,7 @@ use Rattle.drawing.specs.declared.fault.Cause.TheVariants.{TableCount, Coordinat
 use Rattle.drawing.specs.Lists.{at}
 use Rattle.drawing.specs.Chains.{no_corner, Linked}
 use Rattle.drawing.specs.Nets.{Net, no_point, starts_of, Matched, Whole, Reached}
-use Rattle.drawing.specs.declared.fault.Fault.{Fault}
+use Rattle.drawing.specs.Causes.{Fault}
 use Rattle.drawing.specs.Verdicts.{Tables, Counts, Named, Used, Repeated, Draws, Refused}
 use Rattle.drawing.proofs.Linking.{next_within, next_once}
 use Rattle.drawing.proofs.Passing.{passes_counts, passes_coordinates, passes_chains, passes_numbers, passes_used, passes_distinct, passes_matched, passes_whole, passes_reached}

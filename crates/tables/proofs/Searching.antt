@@ -1,27 +1,15 @@
 -- A search that marks the edges which are reached from edge 1, and has those wait from which it has not gone on.
-use Rattle.std.proofs.Common.{◌≡◌, ℕ, ◌<◌, Bool, true, false, cond, ◌⊎◌, List, [], ◌∷◌, ◌++◌, length, take, set, replicate, sym, refl, ap, ◌∙◌, inl, inr, arith}
+use Rattle.std.proofs.Common.{◌≡◌, ℕ, ◌<◌, Bool, true, false, cond, ◌⊎◌, List, [], ◌∷◌, ◌++◌, length, set, replicate, sym, refl, ap, ◌∙◌, inl, inr, arith}
 use Rattle.std.proofs.lemmas.List.{length-set, length-replicate}
 use Rattle.std.proofs.lemmas.Bool.{both_ways}
 use Rattle.drawing.specs.Lists.{at, ◌∈◌}
-use Rattle.drawing.specs.Nets.{Net, Step, along, across, step, leads, Reached}
+use Rattle.drawing.specs.declared.step.Step.{Step}
+use Rattle.drawing.specs.declared.step.Step.TheVariants.{Along, Across}
+use Rattle.drawing.specs.Nets.{Net, step, leads, Reached}
+use Rattle.drawing.proofs.Members.{in_left, in_last, in_or_last}
 use Rattle.tables.specs.Bare.{bare}
 use Rattle.tables.specs.Marked.{mark, Marks}
 use Rattle.tables.proofs.Marking.{none_marked, marked_here, marked_stays, marked_cases}
-
-in_front : (xs ys : List ℕ) (k : ℕ) → k ∈ xs → k ∈ (xs ++ ys)
-in_front [] ys k h = absurd h
-in_front (x ∷ xs) ys k (inl e) = inl e
-in_front (x ∷ xs) ys k (inr h) = inr (in_front xs ys k h)
-
-in_last : (xs : List ℕ) (k : ℕ) → k ∈ (xs ++ (k ∷ []))
-in_last [] k = inl refl
-in_last (x ∷ xs) k = inr (in_last xs k)
-
-in_cases : (xs : List ℕ) (y k : ℕ) → k ∈ (xs ++ (y ∷ [])) → (k ∈ xs) ⊎ (k ≡ y)
-in_cases [] y k (inl e) = inr e
-in_cases [] y k (inr h) = absurd h
-in_cases (x ∷ xs) y k (inl e) = inl (inl e)
-in_cases (x ∷ xs) y k (inr h) = elim (in_cases xs y k h) [ inl o ↦ inl (inr o) | inr e ↦ inr e ]
 
 -- The edge a has its mark now, and waits unless it had it.
 record Visited (a : ℕ) (marks : List Bool) (wait : List ℕ) (marks' : List Bool) (wait' : List ℕ) : Type 0 where
@@ -46,17 +34,14 @@ visits_by a marks wait false e h = record {
   size = length-set marks a true;
   here = marked_here marks a h;
   stays = λ k m. marked_stays marks a k m;
-  still = λ k i. in_front wait _ k i;
+  still = λ k i. in_left k wait _ i;
   fresh = λ k m. elim (marked_cases marks a k m) [ inl is ↦ inr (is, rw is (in_last wait a)) | inr was ↦ inl was ];
-  joins = λ k i. in_cases wait a k i;
+  joins = λ k i. in_or_last wait a k i;
 }
 
 visits : (a : ℕ) (marks marks' : List Bool) (wait wait' : List ℕ) → a < length marks
     → marks' ≡ set marks a true → wait' ≡ cond (mark marks a) wait (wait ++ (a ∷ [])) → Visited a marks wait marks' wait'
 visits a marks marks' wait wait' h p q = rw (p, q) (visits_by a marks wait _ refl h)
-
-pub none_taken : (n : ℕ) (xs : List ℕ) → n ≡ 0 → take n xs ≡ []
-none_taken n xs e = rw e
 
 module _ (next opposite : List ℕ) where
   -- the net of these edges
@@ -107,12 +92,12 @@ module _ (next opposite : List ℕ) where
         first = old 0 s.first;
         reached = λ k h.
             elim (w.fresh k h) [
-              | inl h₁ ↦ elim (v.fresh k h₁) [ inl h₀ ↦ s.reached k h₀ | inr new ↦ rw new.0 (reached_more along e (s.reached e here)) ]
-              | inr new ↦ rw new.0 (reached_more across e (s.reached e here))
+              | inl h₁ ↦ elim (v.fresh k h₁) [ inl h₀ ↦ s.reached k h₀ | inr new ↦ rw new.0 (reached_more Along e (s.reached e here)) ]
+              | inr new ↦ rw new.0 (reached_more Across e (s.reached e here))
             ];
         waits = λ k i.
             elim (w.joins k i) [
-              | inl i₁ ↦ elim (v.joins k i₁) [ inl i₀ ↦ old k (s.waits k (rw is (in_front wait _ k i₀))) | inr is ↦ w.stays k (rw is v.here) ]
+              | inl i₁ ↦ elim (v.joins k i₁) [ inl i₀ ↦ old k (s.waits k (rw is (in_left k wait _ i₀))) | inr is ↦ w.stays k (rw is v.here) ]
               | inr is ↦ rw is w.here
             ];
         closed = λ k h.
@@ -122,7 +107,7 @@ module _ (next opposite : List ℕ) where
                     | inl h₀ ↦
                         elim (s.closed k h₀) [
                           | inl i ↦
-                              elim (in_cases wait e k (rw is at i)) [
+                              elim (in_or_last wait e k (rw is at i)) [
                                 | inl i₀ ↦ inl (w.still k (v.still k i₀))
                                 | inr e≡ ↦ inr (rw e≡ (w.stays _ v.here), rw e≡ w.here)
                               ]
@@ -137,8 +122,8 @@ module _ (next opposite : List ℕ) where
   leads_within : (n : ℕ) → ((e : ℕ) → e < n → at next e < n) → ((e : ℕ) → e < n → at opposite e < n)
       → (w : List Step) (e : ℕ) → e < n → leads m w e < n
   leads_within n p q [] e h = h
-  leads_within n p q (along ∷ w) e h = leads_within n p q w _ (p e h)
-  leads_within n p q (across ∷ w) e h = leads_within n p q w _ (q e h)
+  leads_within n p q (Along ∷ w) e h = leads_within n p q w _ (p e h)
+  leads_within n p q (Across ∷ w) e h = leads_within n p q w _ (q e h)
 
   -- The last that waits is an edge.
   pub search_within : (n : ℕ) → ((e : ℕ) → e < n → at next e < n) → ((e : ℕ) → e < n → at opposite e < n) → 0 < n
@@ -150,8 +135,8 @@ module _ (next opposite : List ℕ) where
   -- Where none waits, what is marked leads to nothing else.
   stays_marked : (marks : List Bool) → Search marks [] → (w : List Step) (e : ℕ) → mark marks e ≡ true → mark marks (leads m w e) ≡ true
   stays_marked marks s [] e h = h
-  stays_marked marks s (along ∷ w) e h = elim (s.closed e h) [ inl none ↦ absurd none | inr c ↦ stays_marked marks s w _ c.0 ]
-  stays_marked marks s (across ∷ w) e h = elim (s.closed e h) [ inl none ↦ absurd none | inr c ↦ stays_marked marks s w _ c.1 ]
+  stays_marked marks s (Along ∷ w) e h = elim (s.closed e h) [ inl none ↦ absurd none | inr c ↦ stays_marked marks s w _ c.0 ]
+  stays_marked marks s (Across ∷ w) e h = elim (s.closed e h) [ inl none ↦ absurd none | inr c ↦ stays_marked marks s w _ c.1 ]
 
   pub search_ends : (marks : List Bool) (wait : List ℕ) → wait ≡ [] → Search marks wait → Marks 480 (Reached m) marks
   search_ends marks wait nil s = record {

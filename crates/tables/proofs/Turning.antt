@@ -1,11 +1,11 @@
 -- The edges that leave a point, turned about it, and which points have them all marked.
 use Rattle.std.proofs.Common.{◌≡◌, ℕ, zero, suc, ◌+◌, ◌<◌, ◌≤◌, Bool, true, false, List, length, set, replicate, sym, refl, ap, ◌∙◌, inl, inr, arith, below_none, below_more}
-use Rattle.std.proofs.lemmas.List.{length-set, length-replicate, get_or-set_same, get_or-set_other, get_or-replicate}
-use Rattle.std.proofs.lemmas.Bool.{cases_eq, cases_Bool, both_ways}
+use Rattle.std.proofs.lemmas.List.{length-set, length-replicate, get_or-replicate}
+use Rattle.std.proofs.lemmas.Bool.{cases_Bool, both_ways}
 use Rattle.drawing.specs.Lists.{at}
 use Rattle.drawing.specs.Nets.{Net, Mesh, Whole, turned}
 use Rattle.tables.specs.Bare.{bare}
-use Rattle.tables.specs.Marked.{mark, Marks}
+use Rattle.tables.specs.Marked.{mark}
 use Rattle.tables.specs.Turns.{turn_of, times, Permutes, Rounded, Turned, AllMarked}
 use Rattle.tables.proofs.Cycles.{round_joins, times_within}
 use Rattle.tables.proofs.Marking.{none_marked, marked_here, marked_stays, marked_cases}
@@ -25,16 +25,13 @@ module _ (starts next opposite : List ℕ) where
     pub passed : (e : ℕ) → e < n → mark begun (at starts e) ≡ true
 
   module _ (points : ℕ) (mesh : Mesh points (bare starts next opposite)) where
-    turn_permutes : Permutes (length starts) f
+    pub turn_permutes : Permutes (length starts) f
     turn_permutes = record {
       within = λ e h. mesh.next_within _ (mesh.opposite_within e h);
       once = λ d e h l same.
           let opposites = mesh.next_once _ _ (mesh.opposite_within d h) (mesh.opposite_within e l) same in
           sym (mesh.opposite_twice d h) ∙ ap (at opposite) opposites ∙ mesh.opposite_twice e l;
     }
-
-    pub edges_permute : Permutes (length next) f
-    edges_permute = rw mesh.next_size turn_permutes
 
     turns_start : (k e : ℕ) → e < length starts → at starts (times f k e) ≡ at starts e
     turns_start zero e h = refl
@@ -112,14 +109,6 @@ module _ (starts next opposite : List ℕ) where
           passed = below_more _ _ (λ e l. marked_stays begun _ _ (old.passed e l)) (marked_here begun _ inside);
         }
 
-    pub begun_all : (n : ℕ) (begun marks : List Bool) → length starts ≤ n → Begun n begun marks → Turned starts next opposite marks
-    begun_all n begun marks h all = record {
-      size = all.size;
-      closed = all.closed;
-      joined = all.joined;
-      some = λ e l. all.some (at starts e) (all.passed e (omega arith));
-    }
-
 module _ (starts : List ℕ) (marks : List Bool) where
   -- After the first n edges: the points that none of them leaves which has no mark.
   pub record Full (n : ℕ) (full : List Bool) : Type 0 where
@@ -132,34 +121,6 @@ module _ (starts : List ℕ) (marks : List Bool) where
     size = length-replicate 160 true;
     good = λ q m. below_none _;
     bad = λ q l no-mark. absurd (both_ways _ no-mark (get_or-replicate 160 q true false l));
-  }
-
-  pub full_same : (n : ℕ) (full : List Bool) → Full n full → mark marks n ≡ true → Full (n + 1) full
-  full_same n full old here = record {
-    size = old.size;
-    good = λ q m. below_more _ _ (old.good q m) (λ _. here);
-    bad = old.bad;
-  }
-
-  pub full_less : (n : ℕ) (full : List Bool) → n < length starts → at starts n < 160 → Full n full → mark marks n ≡ false
-      → Full (n + 1) (set full (at starts n) false)
-  full_less n full h inside old here =
-      let struck : mark (set full (at starts n) false) (at starts n) ≡ false = get_or-set_same full (at starts n) false false (omega (arith, old.size)) in
-      record {
-        size = length-set _ _ _ ∙ old.size;
-        good = λ q m.
-            let other : q ≡ at starts n → ⊥ = λ is. both_ways _ struck (rw is at m) in
-            below_more _ _ (old.good q (rw (get_or-set_other full (at starts n) q false false other) at m)) (λ is. absurd (other (sym is)));
-        bad = λ q l m.
-            elim (cases_eq q (at starts n))
-            [ inl is ↦ (n, h, sym is, here) | inr other ↦ old.bad q l (rw (get_or-set_other full (at starts n) q false false other) at m) ];
-      }
-
-  pub full_ends : (n : ℕ) (full : List Bool) → length starts ≤ n → Full n full → Marks 160 (AllMarked starts marks) full
-  full_ends n full h all = record {
-    size = all.size;
-    marked = λ q m e l is. all.good q m e (omega arith) is;
-    unmarked = λ q l m every. let e = all.bad q l m in both_ways _ e.3 (every e.0 e.1 e.2);
   }
 
 pub turned_times : (m : Net) (k e : ℕ) → turned m k e ≡ times (turn_of m.next m.opposite) k e

@@ -1,3 +1,4 @@
+pub mod Steps
 pub mod Walks
 pub mod Pairs
 pub mod Marked

@@ -1,8 +1,8 @@
 -- What a group of checks establishes, or which of them fails first.
-use Rattle.std.specs.Prelude.{◌≡◌, ℕ, ◌<◌, ◌≤◌, List, length, take}
+use Rattle.std.specs.Prelude.{◌≡◌, ℕ, ◌<◌, ◌≤◌, List, length}
 use Rattle.solid.specs.declared.Point.{Point}
 use Rattle.drawing.specs.declared.record.Corner.{Corner}
-use Rattle.drawing.specs.declared.fault.Fault.{Fault}
+use Rattle.drawing.specs.Causes.{Fault}
 use Rattle.drawing.specs.declared.fault.Cause.TheVariants.{PointNumber, LoosePoint, DoublePoint, UnmatchedEdge, PinchedPoint, UnreachedEdge}
 use Rattle.drawing.specs.Lists.{at}
 use Rattle.drawing.specs.Lowest.{RefusedAt}
@@ -40,11 +40,6 @@ pub record Closed (points : ℕ) (starts next opposite : List ℕ) : Type 0 wher
   pub joined : Joined starts next opposite
   pub whole : (q : ℕ) → q < points → Whole (bare starts next opposite) q
   pub reached : (e : ℕ) → e < length starts → Reached (bare starts next opposite) e
-
--- The opposites stand in the first places of a list, one for each edge.
-pub record Opposed (points : ℕ) (starts next list : List ℕ) : Type 0 where
-  pub size : length list ≡ 480
-  pub closed : Closed points starts next (take (length starts) list)
 
 pub data EdgesRefused (points : ℕ) (starts next : List ℕ) (f : Fault) : Type 0 where
   unmatched : RefusedAt UnmatchedEdge (length starts) (λ e. Matched starts next e → ⊥) f → EdgesRefused points starts next f

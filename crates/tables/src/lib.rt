@@ -9,4 +9,5 @@ mod points;
 mod ranges;
 mod reach;
 mod turns;
+mod walk;
 pub mod wiring;

@@ -1,5 +1,5 @@
 // Each point is used, and none is there twice.
-ghost use Rattle.std.specs.Prelude.{◌≡◌, ℕ, ◌<◌, ◌≤◌, length, Decides, MatchResult, slice_index_or};
+ghost use Rattle.std.specs.Prelude.{◌≡◌, ℕ, ◌<◌, ◌≤◌, length, Decides, MatchOption, MatchResult, slice_index_or};
 ghost use Rattle.drawing.specs.declared.fault.Cause.TheVariants.{LoosePoint, DoublePoint};
 ghost use Rattle.drawing.specs.Lowest.{Judges};
 ghost use Rattle.drawing.specs.Nets.{no_point};
@@ -14,6 +14,8 @@ use crate::ranges::point_numbers_in_range;
 use drawing::fault::{Cause, Fault};
 use drawing::record::Corner;
 use solid::Point;
+
+// Points are raw until all checks are made: no type says that they are few and near.
 
 /// Marks the points that the corners name.
 fn named_points(corners: &[Corner]) -> [bool; 160]
@@ -49,21 +51,41 @@ fn bucket(p: Point) -> usize
     (x + 40 * y + 94 * z) % 251
 }
 
-/// Whether an earlier point has the coordinates of the point at `p`. The last before it in its bucket has the number `last`.
-fn is_repeated(points: &[Point], links: &[usize], last: usize, p: usize) -> bool
+/// Whether an earlier point has the coordinates of the point `p`. The last before it in its bucket is `last`.
+fn is_repeated(points: &[Point], links: &[Option<usize>], last: Option<usize>, p: usize) -> bool
     requires within { (p < length points.now) × (p < length links.now) }
     requires linked { LinkedTo points.now p links.now }
     requires last { Last points.now p (bucket_at points.now p) last }
     ensures { Decides result (Repeated points.now p) }
 {
-    let mut number = last;
-    while number != 0 {
-        if points[number - 1] == points[p] {
+    let mut earlier = last;
+    while let Some(q) = earlier {
+        if points[q] == points[p] {
             return true;
         }
-        number = links[number - 1];
+        earlier = links[q];
     }
     false
+}
+
+/// The first point that has the coordinates of an earlier one.
+fn first_repeated(points: &[Point]) -> Option<usize>
+    requires count { length points.now ≤ 160 }
+    requires near { (q : ℕ) → q < length points.now → Near (slice_index_or points.now q no_point) }
+    ensures { MatchOption result ((q : ℕ) → q < length points.now → Repeated points.now q → ⊥) (λ q. (q < length points.now) × Repeated points.now q × ((k : ℕ) → k < q → Repeated points.now k → ⊥)) }
+{
+    // buckets by hand: a rule of the project is that the checks allocate nothing, so that there is no `HashSet`
+    let mut heads = [None; 251];
+    let mut links = [None; 160];
+    for (p, point) in points.iter().enumerate() {
+        let b = bucket(*point);
+        if is_repeated(points, &links, heads[b], p) {
+            return Some(p);
+        }
+        links[p] = heads[b];
+        heads[b] = Some(p);
+    }
+    None
 }
 
 /// Refuses the first point that has the coordinates of an earlier one.
@@ -72,20 +94,7 @@ pub(crate) fn all_distinct(points: &[Point]) -> Result<(), Fault>
     requires near { (q : ℕ) → q < length points.now → Near (slice_index_or points.now q no_point) }
     ensures { Judges DoublePoint (length points.now) (λ q. Repeated points.now q → ⊥) (Repeated points.now) result }
 {
-    let mut heads = [0; 251];
-    let mut links = [0; 160];
-    for p in 0..points.len() {
-        let b = bucket(points[p]);
-        if is_repeated(points, &links, heads[b], p) {
-            return Err(Fault {
-                cause: Cause::DoublePoint,
-                place: p + 1,
-            });
-        }
-        links[p] = heads[b];
-        heads[b] = p + 1;
-    }
-    Ok(())
+    Fault::refuse_first(Cause::DoublePoint, first_repeated(points))
 }
 
 /// Refuses a corner that names no point, then a point that none names, then one that is there twice.

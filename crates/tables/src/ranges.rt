@@ -14,10 +14,10 @@ use solid::Point;
 pub(crate) fn counts_in_range(points: usize, corners: usize, faces: usize) -> Result<(), Fault>
     ensures { MatchResult result (λ _. Counts points corners faces) (CountRefused points corners faces) }
 {
-    let points_fit = points >= 4 && points <= 160;
-    let corners_fit = corners >= 12 && corners <= 480;
-    let faces_fit = faces >= 4 && faces <= 160;
-    if points_fit && corners_fit && faces_fit {
+    let fit = (4..=160).contains(&points)
+        && (12..=480).contains(&corners)
+        && (4..=160).contains(&faces);
+    if fit {
         Ok(())
     } else {
         Err(Fault {
@@ -30,7 +30,7 @@ pub(crate) fn counts_in_range(points: usize, corners: usize, faces: usize) -> Re
 fn fits(x: i64) -> bool
     ensures { MatchBool result (unsigned_abs x ≤ 8000) (8000 < unsigned_abs x) }
 {
-    x >= -8000 && x <= 8000
+    (-8000..=8000).contains(&x)
 }
 
 fn is_near(p: Point) -> bool
@@ -43,28 +43,16 @@ fn is_near(p: Point) -> bool
 pub(crate) fn points_in_range(points: &[Point]) -> Result<(), Fault>
     ensures { Judges Coordinate (length points.now) (λ q. Near (slice_index_or points.now q no_point)) (λ q. Near (slice_index_or points.now q no_point) → ⊥) result }
 {
-    for (k, p) in points.iter().enumerate() {
-        if !is_near(*p) {
-            return Err(Fault {
-                cause: Cause::Coordinate,
-                place: k + 1,
-            });
-        }
-    }
-    Ok(())
+    let far = points.iter().position(|p| !is_near(*p));
+    Fault::refuse_first(Cause::Coordinate, far)
 }
 
 /// Refuses the lowest corner that names no point.
 pub(crate) fn point_numbers_in_range(point_count: usize, corners: &[Corner]) -> Result<(), Fault>
     ensures { Judges PointNumber (length corners.now) (Named corners.now point_count) (λ k. Named corners.now point_count k → ⊥) result }
 {
-    for (k, c) in corners.iter().enumerate() {
-        if c.point == 0 || c.point > point_count {
-            return Err(Fault {
-                cause: Cause::PointNumber,
-                place: k + 1,
-            });
-        }
-    }
-    Ok(())
+    let unnamed = corners
+        .iter()
+        .position(|c| c.point == 0 || c.point > point_count);
+    Fault::refuse_first(Cause::PointNumber, unnamed)
 }

@@ -3,50 +3,51 @@ ghost use Rattle.std.specs.Prelude.{◌≡◌, ℕ, ◌<◌, ◌≤◌, false, l
 ghost use Rattle.drawing.specs.declared.fault.Cause.TheVariants.{PinchedPoint};
 ghost use Rattle.drawing.specs.Lists.{at};
 ghost use Rattle.drawing.specs.Lowest.{Judges};
-ghost use Rattle.drawing.specs.Nets.{Mesh, Whole};
+ghost use Rattle.drawing.specs.Nets.{Whole};
 ghost use Rattle.tables.specs.Bare.{bare};
 ghost use Rattle.tables.specs.Marked.{mark, Marks};
-ghost use Rattle.tables.specs.Turns.{turn_of, times, Permutes, Rounded, Turned, AllMarked};
+ghost use Rattle.tables.specs.Turns.{turn_of, times, Rounded, Turned, AllMarked};
 
+use crate::edges::Edges;
 use crate::marks::all_marked;
 use drawing::fault::{Cause, Fault};
 
-/// Marks the edges that turning leads to from the edge `first`, of which none has a mark yet.
-fn turn_from(next: &[usize], opposite: &[usize], first: usize, marks: &mut [bool])
-    requires size { (length opposite.now ≡ length next.now) × ((length next.now ≤ length marks.old) × (first < length next.now)) }
-    requires opposite_within { (e : ℕ) → e < length next.now → at opposite.now e < length next.now }
-    requires permutes { Permutes (length next.now) (turn_of next.now opposite.now) }
-    requires fresh { (k : ℕ) → mark marks.old (times (turn_of next.now opposite.now) k first) ≡ false }
-    ensures { Rounded (turn_of next.now opposite.now) first marks.old marks.new }
-{
-    let mut e = first;
-    while !marks[e] {
-        marks[e] = true;
-        e = next[opposite[e]];
-    }
-}
-
-/// Marks, of the edges that leave each point, those that turning leads to from the first of them.
-fn turned_edges(
-    point_count: usize,
-    starts: &[usize],
-    next: &[usize],
-    opposite: &[usize],
-) -> [bool; 480]
-    requires count { (point_count ≤ 160) × (length starts.now ≤ 480) }
-    requires mesh { Mesh point_count (bare starts.now next.now opposite.now) }
-    ensures { Turned starts.now next.now opposite.now result }
-{
-    let mut marks = [false; 480];
-    let mut begun = [false; 160];
-    for e in 0..starts.len() {
-        let q = starts[e];
-        if !begun[q] {
-            begun[q] = true;
-            turn_from(next, opposite, e, &mut marks);
+impl Edges<'_> {
+    /// Marks the edges that turning leads to from the edge `first`, of which none has a mark yet.
+    fn turn_from(&self, first: usize, marks: &mut [bool])
+        requires within { (first < length self.now.starts.now) × (length self.now.starts.now ≤ length marks.old) }
+        requires fresh { (k : ℕ) → mark marks.old (times (turn_of self.now.next.now self.now.opposite.now) k first) ≡ false }
+        ensures { Rounded (turn_of self.now.next.now self.now.opposite.now) first marks.old marks.new }
+    {
+        let mut e = first;
+        while !marks[e] {
+            marks[e] = true;
+            e = self.next[self.opposite[e]];
         }
     }
-    marks
+
+    /// Marks, of the edges that leave each point, those that turning leads to from the first of them.
+    fn turned(&self) -> [bool; 480]
+        ensures { Turned self.now.starts.now self.now.next.now self.now.opposite.now result }
+    {
+        let mut marks = [false; 480];
+        let mut begun = [false; 160];
+        for (e, q) in self.starts.iter().enumerate() {
+            if !begun[*q] {
+                begun[*q] = true;
+                self.turn_from(e, &mut marks);
+            }
+        }
+        marks
+    }
+
+    /// Refuses the first point about which turning does not lead from each edge that leaves it to each.
+    pub(crate) fn whole_points(&self) -> Result<(), Fault>
+        ensures { Judges PinchedPoint self.now.points (Whole (bare self.now.starts.now self.now.next.now self.now.opposite.now)) (λ q. Whole (bare self.now.starts.now self.now.next.now self.now.opposite.now) q → ⊥) result }
+    {
+        let full = full_points(self.starts, &self.turned());
+        all_marked(&full, self.points, Cause::PinchedPoint)
+    }
 }
 
 /// Marks the points that no edge leaves which has no mark.
@@ -56,26 +57,10 @@ fn full_points(starts: &[usize], marks: &[bool]) -> [bool; 160]
     ensures { Marks 160 (AllMarked starts.now marks.now) result }
 {
     let mut full = [true; 160];
-    for e in 0..starts.len() {
+    for (e, q) in starts.iter().enumerate() {
         if !marks[e] {
-            full[starts[e]] = false;
+            full[*q] = false;
         }
     }
     full
-}
-
-/// Refuses the first point about which turning does not lead from each edge that leaves it to each.
-pub(crate) fn whole_points(
-    point_count: usize,
-    starts: &[usize],
-    next: &[usize],
-    opposite: &[usize],
-) -> Result<(), Fault>
-    requires count { (point_count ≤ 160) × (length starts.now ≤ 480) }
-    requires mesh { Mesh point_count (bare starts.now next.now opposite.now) }
-    ensures { Judges PinchedPoint point_count (Whole (bare starts.now next.now opposite.now)) (λ q. Whole (bare starts.now next.now opposite.now) q → ⊥) result }
-{
-    let marks = turned_edges(point_count, starts, next, opposite);
-    let full = full_points(starts, &marks);
-    all_marked(&full, point_count, Cause::PinchedPoint)
 }

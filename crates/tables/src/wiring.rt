@@ -5,36 +5,37 @@ ghost use Rattle.drawing.specs.Verdicts.{tables, Named, Refused};
 ghost use Rattle.tables.specs.Wirings.{Wired};
 
 use crate::chains::{next_edges, walk_chains};
-use crate::edges::join_edges;
+use crate::edges::Seams;
 use crate::points::check_points;
 use crate::ranges::{counts_in_range, points_in_range};
+use arrayvec::ArrayVec;
 use drawing::fault::Fault;
 use drawing::record::{Corner, Face};
 use solid::Point;
 
-/// The edges of a drawing that passed, in lists with a place for each corner; the places beyond are free.
-#[derive(Clone, Copy)]
+/// The edges of a drawing that passed, in lists with an item for each corner.
+// Lists, and no list of records: each comes from a check of its own, and a record would have holes until the last.
+#[derive(Drop)]
 pub struct Wiring {
     /// the index of the point at which each edge starts
-    pub starts: [usize; 480],
-    pub next: [usize; 480],
-    pub opposite: [usize; 480],
+    pub starts: ArrayVec<usize, 480>,
+    pub next: ArrayVec<usize, 480>,
+    pub opposite: ArrayVec<usize, 480>,
     /// the corners, chain by chain
-    pub order: [usize; 480],
+    pub order: ArrayVec<usize, 480>,
     /// the first corner of each corner's chain
-    pub home: [usize; 480],
+    pub home: ArrayVec<usize, 480>,
 }
 
 /// The index of the point at which the edge of each corner starts.
-fn start_points(point_count: usize, corners: &[Corner]) -> [usize; 480]
+fn start_points(corners: &[Corner]) -> ArrayVec<usize, 480>
     requires few { length corners.now ≤ 480 }
-    requires named { (k : ℕ) → k < length corners.now → Named corners.now point_count k }
-    ensures size { length result ≡ 480 }
-    ensures are { take (length corners.now) result ≡ starts_of corners.now }
+    requires named { (k : ℕ) → k < length corners.now → Named corners.now 160 k }
+    ensures { result.items ≡ starts_of corners.now }
 {
-    let mut starts = [0; 480];
-    for (k, c) in corners.iter().enumerate() {
-        starts[k] = c.point - 1;
+    let mut starts = ArrayVec::new();
+    for c in corners {
+        starts.push(c.point - 1);
     }
     starts
 }
@@ -45,17 +46,21 @@ pub fn wire(points: &[Point], corners: &[Corner], faces: &[Face]) -> Result<Wiri
 {
     counts_in_range(points.len(), corners.len(), faces.len())?;
     points_in_range(points)?;
-    let walk = walk_chains(corners, faces)?;
-    let next = next_edges(corners, &walk.home);
+    let chains = walk_chains(corners, faces)?;
+    let next = next_edges(corners, chains.home.as_slice());
     check_points(points, corners)?;
-    let starts = start_points(points.len(), corners);
-    let n = corners.len();
-    let opposite = join_edges(points.len(), &starts[0..n], &next[0..n])?;
+    let starts = start_points(corners);
+    let seams = Seams {
+        points: points.len(),
+        starts: starts.as_slice(),
+        next: next.as_slice(),
+    };
+    let opposite = seams.join()?;
     Ok(Wiring {
         starts,
         next,
         opposite,
-        order: walk.order,
-        home: walk.home,
+        order: chains.order,
+        home: chains.home,
     })
 }

@@ -1,55 +1,54 @@
 // The drawing checks.
-ghost use Rattle.std.specs.Prelude.{◌≡◌, ◌≤◌, length, take, IfOk, Option};
-ghost use Rattle.drawing.specs.declared.fault.Fault.{Fault};
+ghost use Rattle.std.specs.Prelude.{◌≡◌, ◌≤◌, length, map, IfOk, Option};
+ghost use Rattle.drawing.specs.Causes.{Fault};
 ghost use Rattle.drawing.specs.Nets.{marks_of};
 ghost use Rattle.drawing.specs.Verdicts.{tables, Draws};
 ghost use Rattle.block.specs.Checked.{Checked, net_from};
-ghost use Rattle.block.specs.Views.{view, fault_of, Verdict};
+ghost use Rattle.block.specs.Views.{fault_of, Verdict};
 
-use super::Block;
+use super::{Block, Edge};
+use arrayvec::ArrayVec;
 use drawing::fault::Fault;
 use drawing::record::{Corner, Face};
-use shape::shaping::check_shape;
+use shape::edges::Edges;
 use solid::Point;
 use tables::wiring::{Wiring, wire};
 
-/// The points, in the first places.
-fn point_table(points: &[Point]) -> [Point; 160]
-    requires { length points.now ≤ 160 }
-    ensures { take (length points.now) result ≡ points.now }
+/// The edges of a drawing that passed, one for each corner.
+fn edges_of(corners: &[Corner], wiring: &Wiring) -> ArrayVec<Edge, 480>
+    requires few { length corners.now ≤ 480 }
+    requires starts { length wiring.now.starts.items ≡ length corners.now }
+    requires next { length wiring.now.next.items ≡ length corners.now }
+    requires opposite { length wiring.now.opposite.items ≡ length corners.now }
+    ensures starts { map (λ e. e.start) result.items ≡ wiring.now.starts.items }
+    ensures marks { map (λ e. e.mark) result.items ≡ marks_of corners.now }
+    ensures next { map (λ e. e.next) result.items ≡ wiring.now.next.items }
+    ensures opposite { map (λ e. e.opposite) result.items ≡ wiring.now.opposite.items }
 {
-    let mut table = [Point { x: 0, y: 0, z: 0 }; 160];
-    for (k, p) in points.iter().enumerate() {
-        table[k] = *p;
+    // by index, and pushed: four lists in step are no plainer zipped, and to collect into an `ArrayVec` asks for an allocator
+    let mut edges = ArrayVec::new();
+    for (k, corner) in corners.iter().enumerate() {
+        edges.push(Edge {
+            start: wiring.starts[k],
+            mark: corner.mark,
+            next: wiring.next[k],
+            opposite: wiring.opposite[k],
+        });
     }
-    table
-}
-
-/// The marks of the corners, in the first places.
-fn mark_table(corners: &[Corner]) -> [u8; 480]
-    requires { length corners.now ≤ 480 }
-    ensures { take (length corners.now) result ≡ marks_of corners.now }
-{
-    let mut table = [0; 480];
-    for (k, c) in corners.iter().enumerate() {
-        table[k] = c.mark;
-    }
-    table
+    edges
 }
 
 /// The block of a drawing that passed.
 fn assemble(points: &[Point], corners: &[Corner], wiring: &Wiring) -> Block
     requires { Checked (net_from points.now corners.now wiring.now) }
-    ensures { view result ≡ net_from points.now corners.now wiring.now }
+    ensures { result ≡ net_from points.now corners.now wiring.now }
 {
+    let Ok(points) = ArrayVec::try_from(points) else {
+        unreachable!()
+    };
     Block {
-        points: point_table(points),
-        vertices: points.len(),
-        starts: wiring.starts,
-        marks: mark_table(corners),
-        next: wiring.next,
-        opposite: wiring.opposite,
-        edges: corners.len(),
+        points,
+        edges: edges_of(corners, wiring),
     }
 }
 
@@ -57,18 +56,18 @@ fn assemble(points: &[Point], corners: &[Corner], wiring: &Wiring) -> Block
 pub fn check(points: &[Point], corners: &[Corner], faces: &[Face]) -> Result<Block, Fault>
     ensures verdict { Verdict (tables points.now corners.now faces.now) (fault_of result) }
     ensures only { (v : Option Fault) → Verdict (tables points.now corners.now faces.now) v → v ≡ fault_of result }
-    ensures checked { IfOk result (λ b. Checked (view b)) }
-    ensures drawn { IfOk result (λ b. Draws (tables points.now corners.now faces.now) (view b)) }
+    ensures checked { IfOk result (λ b. Checked b) }
+    ensures drawn { IfOk result (λ b. Draws (tables points.now corners.now faces.now) b) }
 {
     let wiring = wire(points, corners, faces)?;
-    let n = corners.len();
-    check_shape(
+    let edges = Edges {
         points,
-        &wiring.starts[0..n],
-        &wiring.next[0..n],
-        &wiring.opposite[0..n],
-        &wiring.order[0..n],
-        &wiring.home[0..n],
-    )?;
+        starts: wiring.starts.as_slice(),
+        next: wiring.next.as_slice(),
+        opposite: wiring.opposite.as_slice(),
+        order: wiring.order.as_slice(),
+        home: wiring.home.as_slice(),
+    };
+    edges.check_shape()?;
     Ok(assemble(points, corners, &wiring))
 }

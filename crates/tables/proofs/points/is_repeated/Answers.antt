@@ -1,16 +1,13 @@
-use Rattle.std.proofs.Common.{refl, arith}
-use Rattle.std.proofs.lemmas.Bool.{false≢true}
-use Rattle.tables.proofs.Bucketing.{points_agree, points_differ, walk_starts, walk_goes_on, walk_ends, walk_finds}
+use Rattle.std.proofs.Common.{rules, refl, arith}
+use Rattle.std.proofs.lemmas.Grind.{common_steps}
+use Rattle.tables.proofs.Bucketing.{walk_goes_on}
 use Rattle.tables.proofs.points.is_repeated.Goals as goal
 
-pub loop-number-init : goal.loop-number-init
-loop-number-init c = walk_starts _ _ _ c.requires.last
-
-pub loop-number-preserved : goal.loop-number-preserved
-loop-number-preserved c = walk_goes_on _ _ _ _ c.requires.linked c.loop-number.invariant (omega arith) (points_differ _ _ c.if-eq.ensures)
+pub loop-earlier-preserved : goal.loop-earlier-preserved
+loop-earlier-preserved c =
+    let walk = rw c.in-Some.is at c.loop-earlier.invariant in
+    walk_goes_on _ _ _ walk (search rules) _ (c.requires.linked _ walk.before)
 
 pub returns-then-eq : goal.returns-then-eq
-returns-then-eq c = (λ _. walk_finds _ _ _ c.loop-number.invariant (omega arith) (points_agree _ _ c.if-eq.ensures), λ _. refl)
-
-pub returns : goal.returns
-returns c = (λ e. absurd (false≢true e), λ again. absurd (walk_ends _ _ _ c.loop-number.invariant c.loop-number-test.false again))
+returns-then-eq c =
+    let walk = rw c.in-Some.is at c.loop-earlier.invariant in (λ _. record { earlier = c.in-Some.q; before = walk.before; same = grind (arith, common_steps) }, λ _. refl)

@@ -1,6 +1,6 @@
-use Rattle.std.proofs.Common.{◌≡◌, length, take}
+use Rattle.std.proofs.Common.{◌≡◌, take}
 use Rattle.drawing.specs.Nets.{starts_of}
 use Rattle.tables.proofs.wiring.start_points.Given as goal
 
-abbrev pub invariant-loop-k : goal.invariant-loop-k
-invariant-loop-k l = (length l.starts ≡ 480) × (take l.k l.starts ≡ starts_of (take l.k l.corners))
+abbrev pub invariant-loop-c : goal.invariant-loop-c
+invariant-loop-c l = l.starts.items ≡ starts_of (take l.c-index l.corners)

@@ -1,5 +1,6 @@
-use Rattle.block.proofs.Tabled.{next_read, next_used}
+use Rattle.block.proofs.Tabled.{next_used}
 use Rattle.block.proofs.body.Block.next.Goals as goal
 
-pub returns : goal.returns
-returns c = record { is = next_read c.args.self.now c.args.edge c.requires; within = next_used c.args.self.now c.args.edge c.requires }
+pub returns-clause-within : goal.returns-clause-within
+returns-clause-within c =
+    rw (c.deref.ensures.0, ← c.self.view_is) (next_used c.self.inside c.self.invariant c.args.edge (rw (← c.self.view_is) at c.requires))

@@ -1,12 +1,12 @@
 use Rattle.std.proofs.Common.{arith}
-use Rattle.block.proofs.Tabled.{start_room, point_read, start_near}
+use Rattle.block.proofs.Tabled.{start_used}
 use Rattle.block.proofs.body.Block.start_point.Goals as goal
 
-pub offset_bounds-self-self : goal.offset_bounds-self-self
-offset_bounds-self-self c = let h = start_room c.args.self.now c.args.edge c.requires in record { fits = omega arith }
+pub bounds-deref-deref : goal.bounds-deref-deref
+bounds-deref-deref c =
+    rw (c.deref.ensures.0, c.deref-2.ensures.0) (start_used c.self.inside c.self.invariant c.args.edge (rw (← c.self.view_is) at c.requires))
 
-pub bounds-self-self : goal.bounds-self-self
-bounds-self-self c = start_room c.args.self.now c.args.edge c.requires
-
-pub returns : goal.returns
-returns c = record { is = point_read c.args.self.now c.args.edge c.requires; near = start_near c.args.self.now c.args.edge c.requires }
+pub offset_bounds-deref-deref : goal.offset_bounds-deref-deref
+offset_bounds-deref-deref c =
+    let used = start_used c.self.inside c.self.invariant c.args.edge (rw (← c.self.view_is) at c.requires) in
+    record { fits = rw c.deref-2.ensures.0 (omega (arith, used, c.self.invariant.points_to)) }

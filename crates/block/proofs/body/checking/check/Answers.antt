@@ -1,5 +1,4 @@
-use Rattle.std.proofs.Common.{length, sym, subst}
-use native.Mathlib.Nat.{sub-zero}
+use Rattle.std.proofs.Common.{sym, subst}
 use Rattle.std.proofs.lemmas.Result.{err_from_is_err_and}
 use Rattle.drawing.specs.Nets.{Net}
 use Rattle.drawing.specs.Verdicts.{tables, Draws}
@@ -13,12 +12,12 @@ returns-in_err-wiring c =
     let r = c.in_err-wiring.ensures in
     rw (p.1, p.2) (record { verdict = r; only = only_refusal _ _ r; checked = tt; drawn = tt })
 
-pub check_shape-requires : goal.check_shape-requires
-check_shape-requires c =
+pub invariant_of-edges : goal.invariant_of-edges
+invariant_of-edges c =
     let t = tables c.args.points.now c.args.corners.now c.args.faces.now in
     let w = c.in_ok-wiring.wiring in
     let h = c.in_ok-wiring.ensures in
-    rw (sub-zero (length c.args.corners.now), h.starts_are)
+    rw (c.as_slice.ensures.value, c.as_slice-2.ensures.value, c.as_slice-3.ensures.value, c.as_slice-4.ensures.value, c.as_slice-5.ensures.value, h.starts_are)
     (record { placed = placed t w h; nexts = nexts t w h; opposites = opposites t w h; orders = orders t w h; homes = homes t w h; few = few t w h })
 
 pub returns-in_err-check_shape : goal.returns-in_err-check_shape
@@ -27,7 +26,7 @@ returns-in_err-check_shape c =
     let t = tables c.args.points.now c.args.corners.now c.args.faces.now in
     let w = c.in_ok-wiring.wiring in
     let h = c.in_ok-wiring.ensures in
-    let e = rw (sub-zero (length c.args.corners.now), h.starts_are) at c.in_err-check_shape.ensures in
+    let e = rw (c.as_slice.ensures.value, c.as_slice-2.ensures.value, c.as_slice-3.ensures.value, c.as_slice-4.ensures.value, c.as_slice-5.ensures.value, h.starts_are) at c.in_err-check_shape.ensures in
     let r = shape_refused t w h _ (e _ (listed t w h)) in
     rw (p.1, p.2) (record { verdict = r; only = only_refusal _ _ r; checked = tt; drawn = tt })
 
@@ -36,7 +35,7 @@ assemble-requires c =
     let t = tables c.args.points.now c.args.corners.now c.args.faces.now in
     let w = c.in_ok-wiring.wiring in
     let h = c.in_ok-wiring.ensures in
-    let e = rw (sub-zero (length c.args.corners.now), h.starts_are) at c.in_ok-check_shape.ensures in
+    let e = rw (c.as_slice.ensures.value, c.as_slice-2.ensures.value, c.as_slice-3.ensures.value, c.as_slice-4.ensures.value, c.as_slice-5.ensures.value, h.starts_are) at c.in_ok-check_shape.ensures in
     checked t w h (e _ (listed t w h))
 
 pub returns : goal.returns
@@ -44,7 +43,7 @@ returns c =
     let t = tables c.args.points.now c.args.corners.now c.args.faces.now in
     let w = c.in_ok-wiring.wiring in
     let h = c.in_ok-wiring.ensures in
-    let e = rw (sub-zero (length c.args.corners.now), h.starts_are) at c.in_ok-check_shape.ensures in
+    let e = rw (c.as_slice.ensures.value, c.as_slice-2.ensures.value, c.as_slice-3.ensures.value, c.as_slice-4.ensures.value, c.as_slice-5.ensures.value, h.starts_are) at c.in_ok-check_shape.ensures in
     let s = e _ (listed t w h) in
     let good = sound t w h s in
     record {

@@ -1,9 +1,0 @@
-use Rattle.tables.specs.Walks.{unmet}
-use Rattle.tables.proofs.Stepping.{Walking}
-use Rattle.tables.proofs.chains.Walk.follow.Given as goal
-
-abbrev pub invariant-loop-number : goal.invariant-loop-number
-invariant-loop-number l = Walking l.corners l.first l.initial.self l.self l.number
-
-abbrev pub decreases-loop-number : goal.decreases-loop-number
-decreases-loop-number l = unmet l.self.home

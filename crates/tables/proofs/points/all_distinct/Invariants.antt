@@ -1,5 +1,0 @@
-use Rattle.tables.proofs.Bucketing.{Filled}
-use Rattle.tables.proofs.points.all_distinct.Given as goal
-
-abbrev pub invariant-loop-p : goal.invariant-loop-p
-invariant-loop-p l = Filled l.points l.p l.heads l.links

@@ -1,6 +1,0 @@
-use Rattle.std.proofs.Common.{arith}
-use Rattle.tables.proofs.Judging.{judges_marked}
-use Rattle.tables.proofs.reach.all_reached.Goals as goal
-
-pub returns : goal.returns
-returns c = judges_marked _ 480 _ _ _ c.all_marked.result (omega arith) c.reached_edges-marks.ensures c.all_marked.ensures
