@@ -2,3 +2,4 @@ pub mod Measured
 pub mod Sameness
 pub mod Equals
 pub mod Halves
+pub mod Written

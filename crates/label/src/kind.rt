@@ -2,7 +2,6 @@
 ghost use Rattle.std.specs.Prelude.{◌≡◌, ℕ, ◌<◌, Bool, T};
 ghost use Rattle.drawing.specs.Nets.{Net, edges};
 ghost use Rattle.block.specs.Checked.{Checked};
-ghost use Rattle.block.specs.Views.{view};
 ghost use Rattle.label.specs.Measured.{measure};
 
 use block::Block;
@@ -23,8 +22,8 @@ pub trait Kind {
 
     /// The label of the edge of this index, from 0. For the crates above: the block is to have that edge.
     fn make(block: &Block, edge: usize) -> Self::Label
-        requires { edge < edges (view block.now) }
-        ensures { result ≡ label (view block.now) edge };
+        requires { edge < edges block.now }
+        ensures { result ≡ label block.now edge };
 
     /// Whether the two labels are the same.
     fn alike(x: &Self::Label, y: &Self::Label) -> bool

@@ -2,7 +2,6 @@
 ghost use Rattle.std.specs.Prelude.{◌≡◌, ◌<◌, true, T};
 ghost use Rattle.std.proofs.Common.{subst};
 ghost use Rattle.drawing.specs.Nets.{edges};
-ghost use Rattle.block.specs.Views.{view};
 ghost use Rattle.label.specs.Measured.{measure, Ranged, Asked};
 ghost use Rattle.label.specs.Sameness.{same_measures};
 ghost use Rattle.label.specs.Equals.{same_self, same_is};
@@ -16,8 +15,8 @@ use solid::{dot, volume};
 impl Measures {
     /// What the edge of this index measures. For the crates above: the block is to have that edge.
     pub fn of(block: &Block, edge: usize) -> Self
-        requires { edge < edges (view block.now) }
-        ensures is { result ≡ measure (view block.now) edge }
+        requires { edge < edges block.now }
+        ensures is { result ≡ measure block.now edge }
         ensures ranged { Ranged result }
     {
         let after = block.next(edge);
@@ -37,7 +36,7 @@ impl Measures {
 
     /// What the edge of this number, from 1, measures; or that the block has no such edge.
     pub fn at(block: &Block, number: usize) -> Option<Self>
-        ensures { Asked (view block.now) number result }
+        ensures { Asked block.now number result }
     {
         if number == 0 || number > block.edge_count() {
             return None;

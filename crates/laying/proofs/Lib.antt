@@ -1,5 +1,4 @@
 mod Hitting
-mod Judging
 mod Verdicts
 mod Congruent
 mod Answering

@@ -4,4 +4,3 @@
 mod matching;
 pub mod misfit;
 pub mod trial;
-mod way;

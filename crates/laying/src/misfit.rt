@@ -1,8 +1,10 @@
 // Where a laying fails.
-ghost use Rattle.std.specs.Prelude.{◌≡◌};
-ghost use Rattle.laying.specs.Flaws.{flaw_of};
+ghost use Rattle.std.specs.Prelude.{◌≡◌, Some};
+ghost use Rattle.laying.specs.Flaws.{flaw_of, flaw_word};
 
-use crate::way::Way;
+use drawing::fault::Located;
+use drawing::step::Step;
+use std::fmt;
 
 /// What keeps a list of images from being a pairing, in the order in which it is looked for.
 #[derive(Clone, Copy, PartialEq, Eq, Debug)]
@@ -23,22 +25,34 @@ pub enum Flaw {
     Label,
 }
 
-impl Flaw {
-    /// That a step of this way is not kept.
-    pub(crate) fn of(way: Way) -> Self
-        ensures { result ≡ flaw_of way }
-    {
-        match way {
-            Way::Next => Flaw::Next,
-            Way::Opposite => Flaw::Opposite,
+/// That a step is not kept.
+impl From<Step> for Flaw {
+    ghost from_gives = { λ step r. r ≡ flaw_of step };
+
+    fn from(step: Step) -> Self {
+        match step {
+            Step::Along => Flaw::Next,
+            Step::Across => Flaw::Opposite,
         }
     }
 }
 
-/// The first flaw of a laying, and its place.
-#[derive(Clone, Copy, PartialEq, Eq, Debug)]
-pub struct Misfit {
-    pub flaw: Flaw,
-    /// the number of the lowest edge that has the flaw: of the second block where one is missed, else of the first; 0 for the length
-    pub place: usize,
+impl fmt::Display for Flaw {
+    ghost output = { λ x. Some (flaw_word x) };
+
+    fn fmt<W: fmt::Write>(&self, f: &mut fmt::Formatter<W>) -> fmt::Result {
+        match self {
+            Flaw::Length => f.write_str("length"),
+            Flaw::Number => f.write_str("number"),
+            Flaw::Twice => f.write_str("twice"),
+            Flaw::Missed => f.write_str("missed"),
+            Flaw::Next => f.write_str("next"),
+            Flaw::Opposite => f.write_str("opposite"),
+            Flaw::Label => f.write_str("label"),
+        }
+    }
 }
+
+/// The first flaw of a laying. Its place is the number of the lowest edge that has the flaw: of the second block where one is
+/// missed, else of the first; 0 for the length.
+pub type Misfit = Located<Flaw>;

@@ -1,11 +1,18 @@
 -- What the records of an edge table say of the net of a block.
 use Rattle.std.specs.Prelude.{◌≡◌, ℕ, ◌+◌, ◌<◌, List, length, get_or, take, slice_index_or}
 use Rattle.drawing.specs.Lists.{at}
+use Rattle.drawing.specs.declared.step.Step.{Step}
+use Rattle.drawing.specs.declared.step.Step.TheVariants.{Along, Across}
 use Rattle.drawing.specs.Nets.{Net, no_point, edges, start, next, opposite, point_at}
 use Rattle.stored.specs.declared.record.Edge.{Edge}
 
 abbrev pub blank_edge : {L : Type 0} → L → Edge L
 blank_edge none = record { point = 0; place = no_point; mark = 0; next = 0; opposite = 0; part = 0; label = none }
+
+-- where a step leads from the edge of a record
+abbrev pub step_of : {L : Type 0} → Step → Edge L → ℕ
+step_of Along r = r.next
+step_of Across r = r.opposite
 
 -- The record holds the edge e of the net: where it starts, its mark, its next edge, its opposite and its label.
 pub record Holds {L : Type 0} (label : Net → ℕ → L) (m : Net) (e : ℕ) (r : Edge L) : Type 0 where

@@ -30,14 +30,7 @@ impl Blank for Measure {
     ghost blank = { unmeasured };
 
     fn blank() -> Measures {
-        Measures {
-            ee: 0,
-            eb: 0,
-            eb2: 0,
-            ec: 0,
-            bc: 0,
-            volume: 0,
-        }
+        Measures::default()
     }
 }
 

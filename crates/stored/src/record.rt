@@ -1,11 +1,11 @@
 // One record of an edge table.
 ghost use Rattle.std.specs.Prelude.{◌≡◌, ◌<◌};
 ghost use Rattle.drawing.specs.Nets.{edges};
-ghost use Rattle.block.specs.Views.{view};
-ghost use Rattle.stored.specs.Records.{blank_edge, Holds};
+ghost use Rattle.stored.specs.Records.{blank_edge, step_of, Holds};
 
 use crate::blanking::Blank;
 use block::Block;
+use drawing::step::Step;
 use label::kind::Kind;
 use solid::Point;
 
@@ -19,7 +19,7 @@ pub struct Edge<L> {
     pub mark: u8,
     pub next: usize,
     pub opposite: usize,
-    /// the lowest running number in its part; running numbers count the edges from 1, through all blocks
+    /// the lowest running number in its part, or 0 where it has none yet; running numbers count the edges from 1, through all blocks
     pub part: usize,
     pub label: L,
 }
@@ -31,7 +31,7 @@ impl<L> Edge<L> {
     {
         Edge {
             point: 0,
-            place: Point { x: 0, y: 0, z: 0 },
+            place: Point::default(),
             mark: 0,
             next: 0,
             opposite: 0,
@@ -39,12 +39,23 @@ impl<L> Edge<L> {
             label: K::blank(),
         }
     }
+
+    /// Where a step from the edge leads.
+    pub fn step(&self, way: Step) -> usize
+        ensures { result ≡ step_of way self.now }
+    {
+        match way {
+            Step::Along => self.next,
+            Step::Across => self.opposite,
+        }
+    }
 }
 
-/// The record of an edge of a block, without its part. For the crates above: the block is to have that edge.
+/// The record of an edge of a block, which stands in no part yet. For the crates above: the block is to have that edge.
 pub fn record_of<K: Kind>(block: &Block, edge: usize) -> Edge<K::Label>
-    requires { edge < edges (view block.now) }
-    ensures { Holds K.Kind.label (view block.now) edge result }
+    requires { edge < edges block.now }
+    ensures holds { Holds K.Kind.label block.now edge result }
+    ensures part { result.part ≡ 0 }
 {
     Edge {
         point: block.start(edge),

@@ -1,7 +1,6 @@
 // The lent edge table.
 ghost use Rattle.std.specs.Prelude.{◌≡◌, ◌+◌, ◌<◌, ◌≤◌, length, slice_set};
 ghost use Rattle.drawing.specs.Nets.{edges};
-ghost use Rattle.block.specs.Views.{view};
 ghost use Rattle.stored.specs.Records.{Stored, Parted};
 
 use crate::record::{Edge, record_of};
@@ -15,6 +14,8 @@ pub struct Table<'a, K: Kind> {
 }
 
 impl<'a, K: Kind> Table<'a, K> {
+    /// The records that are lent.
+    // `place` in each clause: what is lent stays the same memory, which is of the loan, and no fact of the records.
     pub fn over(edges: &'a mut [Edge<K::Label>]) -> Self
         ensures same { result.edges.now ≡ edges.old }
         ensures place { result.edges.ghost_name ≡ edges.entry.ghost_name }
@@ -39,10 +40,11 @@ impl<'a, K: Kind> Table<'a, K> {
 
     /// Writes the edges of a block, from the index `start` on. For the crates above: there is to be room.
     pub fn store(&mut self, start: usize, block: &Block)
-        requires { start + edges (view block.now) ≤ length self.old.edges.now }
-        ensures stored { Stored K.Kind.label (view block.now) start self.old.edges.now self.new.edges.now }
+        requires { start + edges block.now ≤ length self.old.edges.now }
+        ensures stored { Stored K.Kind.label block.now start self.old.edges.now self.new.edges.now }
         ensures place { self.new.edges.ghost_name ≡ self.old.edges.ghost_name }
     {
+        // by index: a block is asked for an edge by its index, and has no list of edges to go through
         for e in 0..block.edge_count() {
             self.put(start + e, record_of::<K>(block, e));
         }

@@ -1,5 +1,4 @@
 use Rattle.std.proofs.Common.{◌∙◌, arith}
-use Rattle.block.specs.Views.{view}
 use Rattle.stored.specs.Records.{Holds}
 use Rattle.stored.proofs.Writing.{size_kept, front_kept, written_more}
 use Rattle.stored.proofs.table.Table.store.Goals as goal
@@ -18,7 +17,7 @@ loop-e-preserved g c =
     let is = c.put.ensures.put in (
       size_kept start e b now _ x is size,
       front_kept start e b now _ x is front,
-      λ d. written_more start e b now _ x is (Holds g.K.Kind.label (view c.args.block.now)) d (omega (arith, c.edge_count-e-end.ensures)) (holds d) c.record_of.ensures,
+      λ d. written_more start e b now _ x is (Holds g.K.Kind.label c.args.block.now) d (omega (arith, c.edge_count-e-end.ensures)) (holds d) c.record_of.ensures.holds,
       c.put.ensures.place ∙ name,
     )
 
