@@ -1,16 +1,16 @@
 -- Running numbers of edges.
-use Rattle.std.proofs.Common.{◌≡◌, ℕ, zero, suc, ◌+◌, ◌-◌, ◌<◌, ◌≤◌, List, [], ◌∷◌, ◌++◌, length, get_or, take, ap, inl, inr, arith}
-use Rattle.std.proofs.lemmas.List.{take-append-le}
+use Rattle.std.proofs.Common.{◌≡◌, ℕ, ◌+◌, ◌-◌, ◌<◌, ◌≤◌, List, ◌++◌, length, get_or, take, ap, inl, inr, arith}
+use Rattle.std.proofs.lemmas.List.{take-append-le, take-take}
+use Rattle.std.proofs.lemmas.List.Sums.{sum_by_more, sum_by-take-le}
 use Rattle.std.proofs.lemmas.Bool.{cases_order}
 use Rattle.drawing.specs.Nets.{Net, edges}
 use Rattle.calls.specs.Entries.{no_net, entry, Known, Edge, held, running}
 
 -- the edges of the first n entries and of the next one are among those of more entries
 pub held_up : (nets : List Net) (n more : ℕ) → n < more → n < length nets → held (take n nets) + edges (get_or nets n no_net) ≤ held (take more nets)
-held_up [] n more lt within = absurd (omega arith)
-held_up (m ∷ nets) n zero lt within = absurd (omega arith)
-held_up (m ∷ nets) zero (suc more) lt within = omega arith
-held_up (m ∷ nets) (suc n) (suc more) lt within = omega (arith, held_up nets n more (omega arith) (omega arith))
+held_up nets n more lt within =
+    let upto : take (n + 1) (take more nets) ≡ take (n + 1) nets = take-take (n + 1) more nets (omega arith) in
+    omega (arith, sum_by_more edges nets n no_net within, sum_by-take-le edges (take more nets) (n + 1), ap held upto)
 
 -- the edges of an entry are counted before those of later ones
 pub running_before : (nets : List Net) (j d k c : ℕ) → Known nets j → Edge (entry nets j) d → 1 ≤ c → j < k → running nets j d < running nets k c

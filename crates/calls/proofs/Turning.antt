@@ -1,26 +1,23 @@
 -- What one call of a row does to the entries and to the listings.
-use Rattle.std.proofs.Common.{◌≡◌, ℕ, ◌+◌, ◌<◌, ◌≤◌, Bool, cond, eqb, ◌⊎◌, List, [], ◌∷◌, ◌++◌, length, get_or, take, set, Some, None, Ok, Err, Option, sym, refl, ap, ◌∙◌, subst, inl, inr, append_assoc, append-nil, add-zero, arith, length-append, length-set}
+use Rattle.std.proofs.Common.{◌≡◌, ℕ, ◌+◌, ◌<◌, ◌≤◌, Bool, cond, eqb, ◌⊎◌, List, [], ◌∷◌, ◌++◌, length, get_or, take, set, Some, None, Ok, Err, Option, sym, refl, ap, ◌∙◌, subst, inl, inr, append-nil, add-zero, arith, length-append, length-set}
 use lib.ListN.{get_or-eq_default}
 use Rattle.std.proofs.lemmas.List.{get_or_append_left, get_or-set_same, get_or-set_other, set-get_or}
 use Rattle.std.proofs.lemmas.Bool.{cases_lt, cases_eq, cond-true, cond-false, eq-eqb, ne_eqb}
+use Rattle.std.proofs.lemmas.Grind.{flat_map-append}
 use Rattle.drawing.specs.Nets.{Net, edges}
 use Rattle.calls.specs.Entries.{entry}
 use Rattle.calls.specs.Answers.{Standing, found, ended}
-use Rattle.calls.specs.Rows.{Event, entered, opened, stepped, strayed, kin, part, State, Turn, gather, Enters, more, standings, Lays, listings, handed}
+use Rattle.calls.specs.Rows.{Event, entered, opened, stepped, strayed, kin, part, State, Turn, Enters, more, standings, Lays, listings, handed}
 use Rattle.calls.proofs.Entering.{AllChecked, checked_push, turned_away}
 use Rattle.calls.proofs.Listed.{Going, going_opened, going_ended, going_on}
 
 -- ---- lists of calls, one after another
 
-gather_on : {X Y : Type 0} (f : X → List Y) (xs ys : List X) → gather f (xs ++ ys) ≡ gather f xs ++ gather f ys
-gather_on f [] ys = refl
-gather_on f (x ∷ xs) ys = ap (λ z. f x ++ z) (gather_on f xs ys) ∙ sym (append_assoc (f x) (gather f xs) (gather f ys))
-
 pub listings_on : (es fs : List Event) → listings (es ++ fs) ≡ listings es ++ listings fs
-listings_on es fs = gather_on _ es fs
+listings_on es fs = flat_map-append _ es fs
 
 pub handed_on : (nets : List Net) (k : ℕ) (lays : Lays) (es fs : List Event) → handed nets k lays (es ++ fs) ≡ handed nets k lays es ++ handed nets k lays fs
-handed_on nets k lays es fs = gather_on _ es fs
+handed_on nets k lays es fs = flat_map-append _ es fs
 
 pub standings_on : (ss : List (Option Standing)) (es fs : List Event) → standings ss (es ++ fs) ≡ standings (standings ss es) fs
 standings_on ss [] fs = refl

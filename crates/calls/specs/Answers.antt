@@ -1,15 +1,15 @@
 -- What each call answers, and what it leaves behind, by the entries of the catalogue.
 use Rattle.std.specs.Prelude.{◌≡◌, ℕ, ◌+◌, ◌-◌, ◌<◌, ◌≤◌, Bool, List, [], ◌∷◌, ◌++◌, length, take, Ok, Err, Result}
-use Rattle.drawing.specs.declared.fault.Fault.{Fault}
+use Rattle.drawing.specs.Causes.{Fault}
 use Rattle.drawing.specs.Lists.{at}
 use Rattle.drawing.specs.Nets.{Net, edges}
 use Rattle.drawing.specs.Verdicts.{Tables, Sound, Refused}
 use Rattle.pairing.specs.Parts.{Shares}
 use Rattle.pairing.specs.Ways.{Kin, Carried}
 use Rattle.laying.specs.Layings.{Laid}
-use Rattle.calls.specs.declared.refusal.Reason.TheVariants.{NoEntry, NoEdge, ShortBuffer, Full}
 use Rattle.calls.specs.declared.refusal.Refusal.{Refusal}
-use Rattle.calls.specs.Reasons.{refused, of_drawing}
+use Rattle.calls.specs.declared.refusal.Refusal.TheVariants.{NoEntry, NoEdge, ShortBuffer, Full}
+use Rattle.calls.specs.Reasons.{of_drawing}
 use Rattle.calls.specs.Entries.{entry, Known, Edge, running, free, Room, Accepted}
 
 -- ---- enter
@@ -24,7 +24,7 @@ pub record Entered (capacity : ℕ) (nets : List Net) (t : Tables) (n : ℕ) (af
 -- It is refused: for the drawing, or for want of room; the place then is the number of free edges.
 pub data Rejected (capacity : ℕ) (nets : List Net) (t : Tables) (f : Refusal) : Type 0 where
   drawing : (fault : Fault) → Refused t fault → f ≡ of_drawing fault → Rejected capacity nets t f
-  full : Sound t → (Room capacity nets (length t.corners) → ⊥) → f ≡ refused Full (free capacity nets) → Rejected capacity nets t f
+  full : Sound t → (Room capacity nets (length t.corners) → ⊥) → f ≡ Full (free capacity nets) → Rejected capacity nets t f
 
 abbrev pub Entering : ℕ → List Net → Tables → Result ℕ Refusal → List Net → Type 0
 Entering capacity nets t (Ok n) after = Entered capacity nets t n after
@@ -42,8 +42,8 @@ pub record Standing : Type 0 where
 
 -- The first of the two numbers that names no entry is refused.
 pub data Unknown (nets : List Net) (i j : ℕ) (f : Refusal) : Type 0 where
-  first : (Known nets i → ⊥) → f ≡ refused NoEntry 1 → Unknown nets i j f
-  second : Known nets i → (Known nets j → ⊥) → f ≡ refused NoEntry 2 → Unknown nets i j f
+  first : (Known nets i → ⊥) → f ≡ NoEntry 1 → Unknown nets i j f
+  second : Known nets i → (Known nets j → ⊥) → f ≡ NoEntry 2 → Unknown nets i j f
 
 -- A listing is opened: it stands before edge 1 of j.
 pub record Opened (nets : List Net) (i j : ℕ) (s : Standing) : Type 0 where
@@ -83,8 +83,8 @@ pub record Made (nets : List Net) (s : Standing) (before after : Buffers) : Type
 
 -- A step is refused, and both buffers are as before: an entry is unknown, or a buffer too short, the images first.
 pub data Short (n : ℕ) (b : Buffers) (f : Refusal) : Type 0 where
-  images : length b.images < n → f ≡ refused ShortBuffer 1 → Short n b f
-  work : n ≤ length b.images → length b.work < n → f ≡ refused ShortBuffer 2 → Short n b f
+  images : length b.images < n → f ≡ ShortBuffer 1 → Short n b f
+  work : n ≤ length b.images → length b.work < n → f ≡ ShortBuffer 2 → Short n b f
 
 pub data Unstepped (nets : List Net) (s : Standing) (b : Buffers) (f : Refusal) : Type 0 where
   unknown : Unknown nets s.from s.to f → Unstepped nets s b f
@@ -137,7 +137,7 @@ module _ {L : Type 0} (label : Net → ℕ → L) (same : L → L → Bool) (net
 
   abbrev pub Asking : ℕ → Result (ℕ × ℕ) Refusal → Type 0
   Asking i (Ok r) = Related i r
-  Asking i (Err f) = (Known nets i → ⊥) × (f ≡ refused NoEntry 1)
+  Asking i (Err f) = (Known nets i → ⊥) × (f ≡ NoEntry 1)
 
   -- ---- part
 
@@ -156,8 +156,8 @@ module _ {L : Type 0} (label : Net → ℕ → L) (same : L → L → Bool) (net
 
   -- An entry that is unknown is refused first, then an edge that the entry does not have, at its number.
   pub data NoPart (i e : ℕ) (f : Refusal) : Type 0 where
-    unknown : (Known nets i → ⊥) → f ≡ refused NoEntry 1 → NoPart i e f
-    beyond : Known nets i → (Edge (entry nets i) e → ⊥) → f ≡ refused NoEdge e → NoPart i e f
+    unknown : (Known nets i → ⊥) → f ≡ NoEntry 1 → NoPart i e f
+    beyond : Known nets i → (Edge (entry nets i) e → ⊥) → f ≡ NoEdge e → NoPart i e f
 
   abbrev pub Parting : ℕ → ℕ → Result ℕ Refusal → Type 0
   Parting i e (Ok p) = LowestInPart i e p

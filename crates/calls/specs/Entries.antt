@@ -1,5 +1,6 @@
 -- The entries of a catalogue: the nets of its blocks, in the order of their entry. Entries and edges are told by numbers, from 1.
-use Rattle.std.specs.Prelude.{ℕ, ◌+◌, ◌-◌, ◌<◌, ◌≤◌, List, [], ◌∷◌, length, take, slice_index_or}
+use Rattle.std.specs.Prelude.{ℕ, ◌+◌, ◌-◌, ◌<◌, ◌≤◌, List, [], length, take, slice_index_or}
+use Rattle.std.specs.List.{sum_by}
 use Rattle.drawing.specs.Nets.{Net, edges}
 use Rattle.drawing.specs.Verdicts.{Tables, Sound, Draws}
 use Rattle.block.specs.Checked.{Checked}
@@ -23,8 +24,7 @@ pub record Edge (m : Net) (e : ℕ) : Type 0 where
 
 -- how many edges the entries have
 abbrev pub held : List Net → ℕ
-held [] = 0
-held (m ∷ nets) = edges m + held nets
+held nets = sum_by edges nets
 
 -- The running number of an edge of an entry: edges are counted from 1 through all entries in their order.
 abbrev pub running : List Net → ℕ → ℕ → ℕ

@@ -1,37 +1,38 @@
--- The number and the layer of each reason of a refusal.
-use Rattle.std.specs.Prelude.{ℕ}
-use Rattle.drawing.specs.declared.fault.Fault.{Fault}
-use Rattle.drawing.specs.declared.fault.Layer as drawn
-use Rattle.drawing.specs.declared.fault.Layer.TheVariants as drawn-in
+-- The number, the layer and the place of each refusal.
+use Rattle.std.specs.Prelude.{ℕ, List, codes}
+use Rattle.drawing.specs.Causes.{Fault}
 use Rattle.drawing.specs.Causes as causes
 use Rattle.calls.specs.declared.refusal.Layer.{Layer}
-use Rattle.calls.specs.declared.refusal.Layer.TheVariants.{Tables, Shape, Catalogue}
-use Rattle.calls.specs.declared.refusal.Reason.{Reason}
-use Rattle.calls.specs.declared.refusal.Reason.TheVariants.{Drawing, NoEntry, NoEdge, ShortBuffer, Full}
+use Rattle.calls.specs.declared.refusal.Layer.TheVariants as layers
 use Rattle.calls.specs.declared.refusal.Refusal.{Refusal}
+use Rattle.calls.specs.declared.refusal.Refusal.TheVariants.{Drawing, NoEntry, NoEdge, ShortBuffer, Full}
 
-abbrev pub number : Reason → ℕ
-number (Drawing c) = causes.number c
-number NoEntry = 13
-number NoEdge = 14
-number ShortBuffer = 15
-number Full = 16
+abbrev pub number : Refusal → ℕ
+number (Drawing f) = causes.number f.cause
+number (NoEntry p) = 13
+number (NoEdge p) = 14
+number (ShortBuffer p) = 15
+number (Full p) = 16
 
-abbrev of_drawn : drawn.Layer → Layer
-of_drawn drawn-in.Tables = Tables
-of_drawn drawn-in.Shape = Shape
+abbrev pub layer : Refusal → Layer
+layer (Drawing f) = layers.Drawing (causes.layer f.cause)
+layer (NoEntry p) = layers.Catalogue
+layer (NoEdge p) = layers.Catalogue
+layer (ShortBuffer p) = layers.Catalogue
+layer (Full p) = layers.Catalogue
 
-abbrev pub layer : Reason → Layer
-layer (Drawing c) = of_drawn (causes.layer c)
-layer NoEntry = Catalogue
-layer NoEdge = Catalogue
-layer ShortBuffer = Catalogue
-layer Full = Catalogue
+-- the layer as it is written
+abbrev pub layer_name : Layer → List ℕ
+layer_name (layers.Drawing l) = causes.layer_name l
+layer_name layers.Catalogue = codes "catalogue"
 
--- a refusal for this reason, at this place
-abbrev pub refused : Reason → ℕ → Refusal
-refused r p = record { reason = r; place = p }
+abbrev pub place : Refusal → ℕ
+place (Drawing f) = f.place
+place (NoEntry p) = p
+place (NoEdge p) = p
+place (ShortBuffer p) = p
+place (Full p) = p
 
 -- the refusal of a drawing, as it is
 abbrev pub of_drawing : Fault → Refusal
-of_drawing f = refused (Drawing f.cause) f.place
+of_drawing f = Drawing f

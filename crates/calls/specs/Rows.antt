@@ -1,6 +1,6 @@
 -- Rows of calls, and what holds of every one.
 use Rattle.std.specs.Prelude.{◌≡◌, ℕ, ◌+◌, ◌-◌, ◌<◌, Bool, cond, T, ◌⊎◌, List, [], ◌∷◌, ◌++◌, map, length, take, Some, None, Ok, Err, Option, Result, ◌==◌, slice_index_or, slice_set}
-use Rattle.std.specs.List.{AllByRecursion}
+use Rattle.std.specs.List.{AllByRecursion, flat_map}
 use Rattle.drawing.specs.Lists.{at}
 use Rattle.drawing.specs.Nets.{Net, edges}
 use Rattle.drawing.specs.Verdicts.{Tables}
@@ -76,10 +76,6 @@ module _ {L : Type 0} (label : Net → ℕ → L) (same : L → L → Bool) (cap
 
 -- ---- What a list of calls says by itself
 
-abbrev pub gather : {X Y : Type 0} → (X → List Y) → List X → List Y
-gather f [] = []
-gather f (x ∷ xs) = f x ++ gather f xs
-
 -- The entries after these calls, from the entries before: the blocks, in order, of the enters that meet no condition of refusal.
 abbrev pub Enters : ℕ → List Net → List Event → List Net → Type 0
 Enters capacity before [] after = before ≡ after
@@ -123,7 +119,7 @@ lays_of (part i e r) = []
 
 -- the listings that the calls opened, in order
 abbrev pub listings : List Event → List Lays
-listings es = gather lays_of es
+listings es = flat_map lays_of es
 
 abbrev pub no_lays : Lays
 no_lays = record { from = 0; to = 0 }
@@ -141,7 +137,7 @@ module _ (nets : List Net) (k : ℕ) (lays : Lays) where
 
   -- what the listing k handed out: for each found step the numbers that it left in the image buffer, one for each edge of its first entry
   abbrev pub handed : List Event → List (List ℕ)
-  handed es = gather handed_by es
+  handed es = flat_map handed_by es
 
 -- ---- The law
 

@@ -7,6 +7,7 @@ use crate::record::Entry;
 pub mod chaining;
 
 /// The records of at most 64 entries. The next entry in a family is a later one.
+// A rule of the project: a plain struct of the 64 records, whose type says the order of the chains; no ArrayVec and no Model.
 #[derive(Clone, Copy)]
 pub struct Register {
     all: [Entry; 64],

@@ -15,10 +15,6 @@ use Rattle.holding.specs.Held.{Held}
 pub edge_at : {L : Type 0} (table : List (Edge L)) (r : Entry) (y : ℕ) (d : Edge L) → y < r.edges → get_or (edges_of table r) y d ≡ get_or table (r.start + y) d
 edge_at table r y d lt = get_or-between table r.start (r.start + r.edges) y d (omega arith)
 
--- the edges of a record that was read are those of its entry
-pub read_edges : {L : Type 0} (table : List (Edge L)) (entries : List Entry) (k : ℕ) {es : List (Edge L)} (r : Entry) → es ≡ edges_of table r → r ≡ record_at entries k → es ≡ edges_of table (record_at entries k)
-read_edges table entries k r is at_k = is ∙ ap (edges_of table) at_k
-
 module _ {L : Type 0} {table : List (Edge L)} {entries : List Entry} {used : ℕ} (s : Spanned table entries used) (k : ℕ) (lt : k < length entries) where
   abbrev own : Entry
   own = record_at entries k

@@ -2,5 +2,6 @@
 #![tactic(auto)]
 
 pub mod family;
+pub mod newcomer;
 pub mod partaking;
 pub mod span;

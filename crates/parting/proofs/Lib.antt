@@ -1,6 +1,5 @@
 mod Listing
 mod Leaving
 mod Grouping
-mod Hitting
 mod Dividing
 mod Splitting

@@ -11,16 +11,17 @@ impl Register {
     pub fn new() -> Self
         ensures { entries_of result ≡ [] }
     {
-        let none = Entry {
-            start: 0,
-            edges: 0,
-            first: 0,
-            next: 0,
-        };
         Register {
-            all: [none; 64],
+            all: [Entry::default(); 64],
             count: 0,
         }
+    }
+
+    /// The records of the entries.
+    fn used(&self) -> &[Entry]
+        ensures { result.now ≡ entries_of self.now }
+    {
+        &self.all[..self.count]
     }
 
     /// How many entries there are.
@@ -28,7 +29,7 @@ impl Register {
         ensures is { result ≡ length (entries_of self.now) }
         ensures few { result ≤ 64 }
     {
-        self.count
+        self.used().len()
     }
 
     /// The record of the entry of this index, from 0. For the crates above: there is to be such an entry.
@@ -36,19 +37,26 @@ impl Register {
         requires { index < length (entries_of self.now) }
         ensures { result ≡ record_at (entries_of self.now) index }
     {
-        self.all[index]
+        self.used()[index]
     }
 
     /// The index of the last entry whose family begins with this one, if there is one.
     pub fn last_of(&self, first: usize) -> Option<usize>
         ensures { LastOf (entries_of self.now) first result }
     {
-        for index in (0..self.count).rev() {
-            if self.all[index].first == first {
-                return Some(index);
-            }
-        }
-        None
+        self.used().iter().rposition(|entry| entry.first == first)
+    }
+
+    // That there is room is asked by each that adds: it is of the moment, and no fact of a register.
+
+    /// Adds a record behind the others.
+    fn push(&mut self, entry: Entry)
+        requires room { length (entries_of self.old) < 64 }
+        requires last { entry.next ≡ 0 }
+        ensures { entries_of self.new ≡ entries_of self.old ++ (entry ∷ []) }
+    {
+        self.all[self.count] = entry;
+        self.count += 1;
     }
 
     /// Adds an entry that begins a family. For the crates above: there is to be room.
@@ -56,14 +64,12 @@ impl Register {
         requires { length (entries_of self.old) < 64 }
         ensures { entries_of self.new ≡ begun (entries_of self.old) start edges }
     {
-        let index = self.count;
-        self.all[index] = Entry {
+        self.push(Entry {
             start,
             edges,
-            first: index + 1,
+            first: self.count + 1,
             next: 0,
-        };
-        self.count = index + 1;
+        });
     }
 
     /// Adds an entry to the end of a family, behind the entry of the index `last`. For the crates above: there is to be room.
@@ -71,21 +77,17 @@ impl Register {
         requires { (length (entries_of self.old) < 64) × (last < length (entries_of self.old)) }
         ensures { entries_of self.new ≡ joined (entries_of self.old) start edges last }
     {
-        let index = self.count;
         let before = self.all[last];
         self.all[last] = Entry {
-            start: before.start,
-            edges: before.edges,
-            first: before.first,
-            next: index + 1,
+            next: self.count + 1,
+            ..before
         };
-        self.all[index] = Entry {
+        self.push(Entry {
             start,
             edges,
             first: before.first,
             next: 0,
-        };
-        self.count = index + 1;
+        });
     }
 
     /// Adds an entry: to the end of the family that begins with the entry of the index `family`, or as the first of a family. For the
@@ -95,11 +97,8 @@ impl Register {
         requires family { IfSome family (λ k. k < length (entries_of self.old)) }
         ensures { Added (entries_of self.old) start edges family (entries_of self.new) }
     {
-        match family {
-            Some(first) => match self.last_of(first + 1) {
-                Some(last) => self.join(start, edges, last),
-                None => self.begin(start, edges),
-            },
+        match family.and_then(|first| self.last_of(first + 1)) {
+            Some(last) => self.join(start, edges, last),
             None => self.begin(start, edges),
         }
     }
