@@ -40,24 +40,27 @@ impl Drawing {
         Ok(())
     }
 
+    fn corner(&mut self, point: usize, next: usize) -> Result<(), AllocError> {
+        self.corners.push(Corner {
+            point,
+            mark: 0,
+            next,
+        })?;
+        Ok(())
+    }
+
     /// One face more, with these corner points.
     fn face(&mut self, chain: &[usize]) -> Result<(), AllocError> {
         let first = self.corners.len().saturating_add(1);
         self.faces.push(Face { first })?;
-        for (k, point) in chain.iter().enumerate() {
-            let last = k.saturating_add(1) == chain.len();
-            let next = if last {
-                0
-            } else {
-                self.corners.len().saturating_add(2)
-            };
-            self.corners.push(Corner {
-                point: *point,
-                mark: 0,
-                next,
-            })?;
+        let Some((last, others)) = chain.split_last() else {
+            return Ok(());
+        };
+        for point in others {
+            let next = self.corners.len().saturating_add(2);
+            self.corner(*point, next)?;
         }
-        Ok(())
+        self.corner(*last, 0)
     }
 
     /// The corner points of a box 10 x 20, whose upper four are this high.

@@ -1,14 +1,13 @@
 -- The verdict on a drawing.
 use Rattle.std.specs.Prelude.{Ok, Err, Result}
-use Rattle.drawing.specs.declared.fault.Fault.{Fault}
+use Rattle.drawing.specs.Causes.{Fault}
 use Rattle.drawing.specs.Verdicts.{Tables, Sound, Refused, Draws}
 use Rattle.block.specs.declared.body.Block.{Block}
-use Rattle.block.specs.Views.{view}
 
 -- The drawing is sound, and the block is the one that it draws.
 pub record Drawn (t : Tables) (b : Block) : Type 0 where
   pub sound : Sound t
-  pub draws : Draws t (view b)
+  pub draws : Draws t b
 
 -- A block that the drawing draws, where it is sound; or the first check that fails, with its place.
 abbrev pub Judged : Tables → Result Block Fault → Type 0

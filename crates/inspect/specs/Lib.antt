@@ -1,3 +1,4 @@
+pub mod State
 pub mod Following
 pub mod Tallies
 pub mod Judged

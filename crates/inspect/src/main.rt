@@ -5,21 +5,20 @@
 mod in_hand;
 mod reply;
 mod session;
-mod stop;
 mod tally;
 
+use anyhow::Result;
 use session::Session;
 use std::io::BufReader;
 use std::process::ExitCode;
-use stop::Stop;
 
 /// Reads and follows all lines of standard input.
-fn read(rt: &HostRuntime, session: &mut Session) -> Result<(), Stop> {
+fn read(rt: &HostRuntime, session: &mut Session) -> Result<()> {
     session.read(rt, BufReader::new(rt.alloc(), rt.stdin())?)
 }
 
 /// Reads all lines and says what was done, also where a line stops it.
-fn run(rt: &HostRuntime) -> Result<(), Stop> {
+fn run(rt: &HostRuntime) -> Result<()> {
     let mut session = Session::new(rt.alloc());
     let end = read(rt, &mut session);
     session.sum_up(rt)?;
@@ -29,8 +28,8 @@ fn run(rt: &HostRuntime) -> Result<(), Stop> {
 fn main(rt: HostRuntime) -> ExitCode {
     match run(&rt) {
         Ok(()) => ExitCode::SUCCESS,
-        Err(stop) => {
-            let _ = eprintln!(rt; "{stop}");
+        Err(error) => {
+            let _ = eprintln!(rt; "{error}");
             ExitCode::FAILURE
         }
     }

@@ -1,75 +1,67 @@
 // What a line is answered.
-use drawing::fault::{Fault, Layer};
 use replies::advice::{Advice, Subject};
 use replies::answer::Answer;
-use replies::laid::LayAnswer;
-use replies::measured::LabelAnswer;
+use replies::laid::{LayAnswer, Unpaired};
+use replies::measured::{LabelAnswer, Unmeasured};
 use replies::remedy::Remedy;
-use std::io;
+use std::fmt;
 
+/// The answer to a line that asks.
 #[derive(Clone, Copy)]
 pub enum Reply {
-    Nothing,
     Check(Answer),
     Label(LabelAnswer),
     Lay(LayAnswer),
 }
 
-impl Reply {
-    pub(crate) fn print(self, rt: &impl Print) -> io::Result<()> {
+impl fmt::Display for Reply {
+    fn fmt<W: fmt::Write>(&self, f: &mut fmt::Formatter<W>) -> fmt::Result {
         match self {
-            Reply::Nothing => Ok(()),
-            Reply::Check(answer) => print_check(rt, answer),
-            Reply::Label(answer) => print_label(rt, answer),
-            Reply::Lay(answer) => print_lay(rt, answer),
+            Reply::Check(answer) => write_check(*answer, f),
+            Reply::Label(answer) => write_label(*answer, f),
+            Reply::Lay(answer) => write_lay(*answer, f),
         }
     }
 }
 
-fn print_check(rt: &impl Print, answer: Answer) -> io::Result<()> {
-    match answer {
-        Answer::Sound(edges) => println!(rt; "{answer} sound: {edges} directed edges"),
-        Answer::Refused(fault) => print_refusal(rt, answer, fault),
+// Each of these writes the words for programs first, and then those for people.
+
+fn write_check<W: fmt::Write>(answer: Answer, f: &mut fmt::Formatter<W>) -> fmt::Result {
+    match answer.0 {
+        Ok(edges) => write!(f, "{answer} sound: {edges} directed edges"),
+        Err(fault) => {
+            let layer = fault.cause.layer();
+            let subject = Subject::from(fault);
+            let advice = Advice(fault);
+            write!(f, "{answer} {layer}: {subject}: {advice}")
+        }
     }
 }
 
-fn print_refusal(rt: &impl Print, answer: Answer, fault: Fault) -> io::Result<()> {
-    let layer = match fault.cause.layer() {
-        Layer::Tables => "tables",
-        Layer::Shape => "shape",
-    };
-    let subject = Subject::of(fault);
-    let place = fault.place;
-    let advice = Advice(fault);
-    if place == 0 {
-        println!(rt; "{answer} {layer}: {subject}: {advice}")
-    } else {
-        println!(rt; "{answer} {layer}: {subject} {place}: {advice}")
-    }
-}
-
-fn print_label(rt: &impl Print, answer: LabelAnswer) -> io::Result<()> {
-    match answer {
-        LabelAnswer::Measured { edge, .. } => println!(rt;
+fn write_label<W: fmt::Write>(answer: LabelAnswer, f: &mut fmt::Formatter<W>) -> fmt::Result {
+    let edge = answer.edge;
+    match answer.measures {
+        Ok(_) => write!(
+            f,
             "{answer} edge {edge}: products e.e e.b e.b2 e.c b.c, volume"
         ),
-        LabelAnswer::NoEdge { edge, edges } => println!(rt;
+        Err(Unmeasured::NoEdge { edges }) => write!(
+            f,
             "{answer} catalogue: edge {edge}: the last sound drawing has the edges 1 to {edges}; name one of them"
         ),
-        LabelAnswer::NoBlock => println!(rt;
+        Err(Unmeasured::NoBlock) => write!(
+            f,
             "{answer} catalogue: no drawing was sound so far; draw one and check it first"
         ),
     }
 }
 
-fn print_lay(rt: &impl Print, answer: LayAnswer) -> io::Result<()> {
-    match answer {
-        LayAnswer::Paired(_) => println!(rt; "{answer}: the images are a pairing"),
-        LayAnswer::Unpaired(_, misfit) => {
-            let remedy = Remedy(misfit);
-            println!(rt; "{answer}: {remedy}")
-        }
-        LayAnswer::NoPair => println!(rt;
+fn write_lay<W: fmt::Write>(answer: LayAnswer, f: &mut fmt::Formatter<W>) -> fmt::Result {
+    match answer.paired {
+        Ok(()) => write!(f, "{answer}: the images are a pairing"),
+        Err(Unpaired::Misfit(misfit)) => write!(f, "{answer}: {}", Remedy(misfit)),
+        Err(Unpaired::NoPair) => write!(
+            f,
             "{answer} catalogue: fewer than two drawings were sound so far; draw and check them first"
         ),
     }

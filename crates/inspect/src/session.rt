@@ -1,21 +1,26 @@
 // A run over the lines of an input.
 ghost use Rattle.std.specs.Prelude.{◌≡◌, [], IfOk, None};
-ghost use Rattle.inspect.specs.Following.{Holds, Checks, Lays, Follows};
+ghost use Rattle.drawing.specs.Verdicts.{tables};
+ghost use Rattle.inspect.specs.Following.{Judges, Checks, Asks, Lays, Follows};
 
 use crate::in_hand::Tables;
 use crate::reply::Reply;
-use crate::stop::Stop;
 use crate::tally::Tally;
+use anyhow::bail;
+use drawing::fault::Fault;
 use kept::recent::Recent;
 use lines::kind::KindName;
 use lines::line::Line;
 use lines::reading::read_line;
 use replies::answer::Answer;
 use replies::laid::LayAnswer;
+use replies::measured::LabelAnswer;
 use std::alloc::Global;
 use std::io;
 use std::io::BufRead;
+use std::marker::Model;
 
+/// What is in hand, what is kept, and what was counted.
 #[derive(Drop)]
 pub struct Session {
     tables: Tables,
@@ -26,22 +31,28 @@ pub struct Session {
     tally: Tally,
 }
 
+// A contract sees what is in hand, what is kept and what was counted; not the line that was read.
+impl Model for Session {
+    ghost use Rattle.inspect.specs.State.{State};
+
+    ghost Value = { State };
+
+    ghost view = { λ s. record { tables = s.tables; images = s.images.items; recent = s.recent; tally = s.tally } };
+}
+
 impl Session {
     pub(crate) fn new(heap: Global) -> Self
-        ensures tables { Holds result.tables [] [] [] }
-        ensures images { result.images.items ≡ [] }
+        ensures tables { result.tables ≡ tables [] [] [] }
+        ensures images { result.images ≡ [] }
         ensures recent { (result.recent.last ≡ None) × (result.recent.before ≡ None) }
         ensures tally { (result.tally.sound ≡ 0) × (result.tally.refused ≡ 0) }
     {
         Session {
             tables: Tables::new(heap),
             images: Vec::new(heap),
-            recent: Recent::new(),
+            recent: Recent::default(),
             line: Vec::new(heap),
-            tally: Tally {
-                sound: 0,
-                refused: 0,
-            },
+            tally: Tally::default(),
         }
     }
 
@@ -50,62 +61,80 @@ impl Session {
         &mut self,
         rt: &impl Print,
         mut input: R,
-    ) -> Result<(), Stop> {
+    ) -> anyhow::Result<()> {
+        // a count that no input reaches: the language wants a loop with an end
         for number in 1..u64::MAX {
             self.line.clear();
             if input.read_until(b'\n', &mut self.line)? == 0 {
                 break;
             }
             match read_line(self.line.as_slice()) {
-                Ok(line) => self.follow(line)?.print(rt)?,
-                Err(malformed) => return Err(Stop::Line(number, malformed)),
+                Ok(line) => {
+                    if let Some(reply) = self.follow(line)? {
+                        println!(rt; "{reply}")?;
+                    }
+                }
+                Err(malformed) => bail!("line {number}: {malformed}"),
             }
         }
         Ok(())
     }
 
-    /// Does what the line says, and hands back what it is answered.
-    fn follow(&mut self, line: Line) -> Result<Reply, Stop>
+    /// Does what the line says, and hands back what it is answered, if it asks. It fails only where memory runs out.
+    fn follow(&mut self, line: Line) -> io::Result<Option<Reply>>
         ensures { IfOk result (Follows self.old line self.new) }
     {
         match line {
             Line::Point(point) => self.tables.points.push(point)?,
             Line::Corner(corner) => self.tables.corners.push(corner)?,
             Line::Face(face) => self.tables.faces.push(face)?,
-            Line::Check => return Ok(Reply::Check(self.check())),
-            Line::Label(edge) => return Ok(Reply::Label(self.recent.label(edge))),
+            Line::Check => return Ok(Some(Reply::Check(self.check()))),
+            Line::Label(edge) => return Ok(Some(Reply::Label(self.label(edge)))),
             Line::Image(image) => self.images.push(image)?,
-            Line::Lay(kind) => return Ok(Reply::Lay(self.lay(kind))),
+            Line::Lay(kind) => return Ok(Some(Reply::Lay(self.lay(kind)))),
             Line::Blank => {}
         }
-        Ok(Reply::Nothing)
+        Ok(None)
     }
 
-    /// Judges the tables in hand, empties them, and keeps the block of a sound drawing.
+    /// Judges the tables in hand, counts the verdict, and empties them.
     fn check(&mut self) -> Answer
-        ensures { Checks self.old result self.new }
+        ensures { Checks self.old result.0 self.new }
     {
-        let verdict = self.tables.judge();
+        let verdict = self.judge();
         self.tables.clear();
-        let answer = match verdict {
-            Ok(block) => {
-                let edges = block.edge_count();
-                self.recent.keep(block);
-                Answer::Sound(edges)
-            }
-            Err(fault) => Answer::Refused(fault),
-        };
-        self.tally.count(answer);
-        answer
+        self.tally.count(verdict);
+        Answer(verdict)
+    }
+
+    /// Judges the tables in hand, and keeps the block of a sound drawing. The verdict is how many edges that has, or the refusal.
+    fn judge(&mut self) -> Result<usize, Fault>
+        ensures judged { Judges self.old.tables self.old.recent result self.new.recent }
+        ensures stays { self.new ≡ record self.old { recent = self.new.recent } }
+    {
+        let block = self.tables.judge()?;
+        let edges = block.edge_count();
+        self.recent.keep(block);
+        Ok(edges)
+    }
+
+    /// What the edge of this number of the last block measures.
+    fn label(&self, edge: usize) -> LabelAnswer
+        ensures { Asks self.now edge result self.now }
+    {
+        LabelAnswer {
+            edge,
+            measures: self.recent.label(edge),
+        }
     }
 
     /// Tries the images in hand, and empties them.
     fn lay(&mut self, kind: KindName) -> LayAnswer
         ensures { Lays self.old kind result self.new }
     {
-        let answer = self.recent.lay(kind, self.images.as_slice());
+        let paired = self.recent.lay(kind, self.images.as_slice());
         self.images.clear();
-        answer
+        LayAnswer { kind, paired }
     }
 
     /// Says what was done.

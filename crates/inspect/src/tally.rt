@@ -2,21 +2,23 @@
 ghost use Rattle.std.specs.Prelude.{◌≡◌};
 ghost use Rattle.inspect.specs.Tallies.{counted};
 
-use replies::answer::Answer;
+use drawing::fault::Fault;
 
-#[derive(Clone, Copy)]
+/// How many drawings were judged sound, and how many were refused.
+#[derive(Clone, Copy, Default)]
 pub struct Tally {
     pub sound: u64,
     pub refused: u64,
 }
 
 impl Tally {
-    pub(crate) fn count(&mut self, answer: Answer)
-        ensures { self.new ≡ counted self.old answer }
+    /// Counts one verdict more.
+    pub(crate) fn count(&mut self, verdict: Result<usize, Fault>)
+        ensures { self.new ≡ counted self.old verdict }
     {
-        match answer {
-            Answer::Sound(_) => self.sound = self.sound.saturating_add(1),
-            Answer::Refused(_) => self.refused = self.refused.saturating_add(1),
+        match verdict {
+            Ok(_) => self.sound = self.sound.saturating_add(1),
+            Err(_) => self.refused = self.refused.saturating_add(1),
         }
     }
 }

@@ -1,20 +1,19 @@
 -- The answers to label and lay lines.
-use Rattle.std.specs.Prelude.{◌≡◌, ℕ, Bool, ◌&&◌, List, Some, None, Option, ◌==◌, nat_eq}
+use Rattle.std.specs.Prelude.{◌≡◌, ℕ, Bool, ◌&&◌, List, Some, None, Option, Ok, Err, Result, ◌==◌, nat_eq}
 use Rattle.drawing.specs.Nets.{Net, edges}
 use Rattle.block.specs.declared.body.Block.{Block}
-use Rattle.block.specs.Views.{view}
 use Rattle.label.specs.declared.measures.Measures.{Measures}
 use Rattle.label.specs.declared.both.Labels.{Labels}
 use Rattle.label.specs.Measured.{measure, mark, Asked}
 use Rattle.label.specs.Sameness.{same_measures}
-use Rattle.laying.specs.declared.misfit.Misfit.{Misfit}
+use Rattle.laying.specs.Flaws.{Misfit}
 use Rattle.laying.specs.Layings.{Verdict, Congruent}
 use Rattle.lines.specs.declared.kind.KindName.{KindName}
 use Rattle.lines.specs.declared.kind.KindName.TheVariants as kind
-use Rattle.replies.specs.declared.measured.LabelAnswer.{LabelAnswer}
-use Rattle.replies.specs.declared.measured.LabelAnswer.TheVariants.{Measured, NoEdge, NoBlock}
-use Rattle.replies.specs.declared.laid.LayAnswer.{LayAnswer}
-use Rattle.replies.specs.declared.laid.LayAnswer.TheVariants.{Paired, Unpaired, NoPair}
+use Rattle.replies.specs.declared.measured.Unmeasured.{Unmeasured}
+use Rattle.replies.specs.declared.measured.Unmeasured.TheVariants.{NoEdge, NoBlock}
+use Rattle.replies.specs.declared.laid.Unpaired.{Unpaired}
+use Rattle.replies.specs.declared.laid.Unpaired.TheVariants as unpaired
 
 -- the measure and the mark of an edge
 abbrev pub both_labels : Net → ℕ → Labels Measures ℕ
@@ -36,24 +35,25 @@ VerdictUnder kind.Mark a b images v = Verdict mark nat_eq a b images v
 VerdictUnder kind.Both a b images v = Verdict both_labels same_both a b images v
 
 -- What the edge of this number measures, or that the block has none of this number but so many edges.
-abbrev pub AnswersLabelIn : Net → ℕ → LabelAnswer → Type 0
-AnswersLabelIn m e (Measured edge x) = (edge ≡ e) × Asked m e (Some x)
-AnswersLabelIn m e (NoEdge edge n) = (edge ≡ e) × (n ≡ edges m) × Asked m e None
-AnswersLabelIn m e NoBlock = ⊥
+abbrev pub AnswersLabelIn : Net → ℕ → Result Measures Unmeasured → Type 0
+AnswersLabelIn m e (Ok x) = Asked m e (Some x)
+AnswersLabelIn m e (Err (NoEdge n)) = (n ≡ edges m) × Asked m e None
+AnswersLabelIn m e (Err NoBlock) = ⊥
 
 -- The answer to a label line: of the last block, if there is one.
-abbrev pub AnswersLabel : Option Block → ℕ → LabelAnswer → Type 0
-AnswersLabel None e r = r ≡ NoBlock
-AnswersLabel (Some b) e r = AnswersLabelIn (view b) e r
+abbrev pub AnswersLabel : Option Block → ℕ → Result Measures Unmeasured → Type 0
+AnswersLabel None e r = r ≡ Err NoBlock
+AnswersLabel (Some b) e r = AnswersLabelIn b e r
 
--- A pairing under this kind, or none for the first flaw.
-abbrev pub AnswersLayOn : Net → Net → KindName → List ℕ → LayAnswer → Type 0
-AnswersLayOn a b k images (Paired named) = (named ≡ k) × VerdictUnder k a b images None
-AnswersLayOn a b k images (Unpaired named misfit) = (named ≡ k) × VerdictUnder k a b images (Some misfit)
-AnswersLayOn a b k images NoPair = ⊥
+module _ {T : Type 0} where
+  -- A pairing under this kind, or none for the first flaw.
+  abbrev pub AnswersLayOn : Net → Net → KindName → List ℕ → Result T Unpaired → Type 0
+  AnswersLayOn a b k images (Ok x) = VerdictUnder k a b images None
+  AnswersLayOn a b k images (Err (unpaired.Misfit misfit)) = VerdictUnder k a b images (Some misfit)
+  AnswersLayOn a b k images (Err unpaired.NoPair) = ⊥
 
--- The answer to a lay line: of the last block but one and the last, if there are both.
-abbrev pub AnswersLay : Option Block → Option Block → KindName → List ℕ → LayAnswer → Type 0
-AnswersLay None last k images r = r ≡ NoPair
-AnswersLay (Some a) None k images r = r ≡ NoPair
-AnswersLay (Some a) (Some b) k images r = AnswersLayOn (view a) (view b) k images r
+  -- The answer to a lay line: of the last block but one and the last, if there are both.
+  abbrev pub AnswersLay : Option Block → Option Block → KindName → List ℕ → Result T Unpaired → Type 0
+  AnswersLay None last k images r = r ≡ Err unpaired.NoPair
+  AnswersLay (Some a) None k images r = r ≡ Err unpaired.NoPair
+  AnswersLay (Some a) (Some b) k images r = AnswersLayOn a b k images r

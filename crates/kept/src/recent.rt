@@ -1,6 +1,5 @@
 // The last two sound drawings.
-ghost use Rattle.std.specs.Prelude.{◌≡◌, None};
-ghost use Rattle.block.specs.Views.{view};
+ghost use Rattle.std.specs.Prelude.{◌≡◌};
 ghost use Rattle.laying.specs.Layings.{misfit_in};
 ghost use Rattle.kept.specs.Keeping.{kept};
 ghost use Rattle.kept.specs.Answered.{VerdictUnder, AnswersLabel, AnswersLay};
@@ -13,11 +12,11 @@ use label::measuring::Measure;
 use laying::misfit::Misfit;
 use laying::trial::{lay, lay_by_measure};
 use lines::kind::KindName;
-use replies::laid::LayAnswer;
-use replies::measured::LabelAnswer;
+use replies::laid::Unpaired;
+use replies::measured::Unmeasured;
 
 /// The blocks of the last two sound drawings, as far as there are any.
-#[derive(Drop)]
+#[derive(Default, Drop)]
 pub struct Recent {
     pub last: Option<Block>,
     /// the last but one
@@ -25,15 +24,6 @@ pub struct Recent {
 }
 
 impl Recent {
-    pub fn new() -> Self
-        ensures { (result.last ≡ None) × (result.before ≡ None) }
-    {
-        Recent {
-            last: None,
-            before: None,
-        }
-    }
-
     /// Keeps a block as the last, and the last as the last but one.
     pub fn keep(&mut self, block: Block)
         ensures { self.new ≡ kept self.old block }
@@ -43,41 +33,29 @@ impl Recent {
     }
 
     /// What the edge of this number of the last block measures.
-    pub fn label(&self, edge: usize) -> LabelAnswer
+    pub fn label(&self, edge: usize) -> Result<Measures, Unmeasured>
         ensures { AnswersLabel self.now.last edge result }
     {
-        let Some(block) = &self.last else {
-            return LabelAnswer::NoBlock;
-        };
-        match Measures::at(block, edge) {
-            Some(measures) => LabelAnswer::Measured { edge, measures },
-            None => LabelAnswer::NoEdge {
-                edge,
-                edges: block.edge_count(),
-            },
-        }
+        let block = self.last.as_ref().ok_or(Unmeasured::NoBlock)?;
+        let edges = block.edge_count();
+        Measures::at(block, edge).ok_or(Unmeasured::NoEdge { edges })
     }
 
     /// Whether the images lay the last block but one onto the last.
-    pub fn lay(&self, kind: KindName, images: &[usize]) -> LayAnswer
+    pub fn lay(&self, kind: KindName, images: &[usize]) -> Result<(), Unpaired>
         ensures { AnswersLay self.now.before self.now.last kind images.now result }
     {
-        let Some(first) = &self.before else {
-            return LayAnswer::NoPair;
-        };
-        let Some(second) = &self.last else {
-            return LayAnswer::NoPair;
-        };
-        match lay_under(kind, first, second, images) {
-            Ok(()) => LayAnswer::Paired(kind),
-            Err(misfit) => LayAnswer::Unpaired(kind, misfit),
+        match (&self.before, &self.last) {
+            (Some(first), Some(second)) => Ok(lay_under(kind, first, second, images)?),
+            _ => Err(Unpaired::NoPair),
         }
     }
 }
 
 /// Tries a laying under the kind of this name.
+// Kinds are types, and a line names one of three: a match is as plain as a table of functions.
 fn lay_under(kind: KindName, first: &Block, second: &Block, images: &[usize]) -> Result<(), Misfit>
-    ensures { VerdictUnder kind (view first.now) (view second.now) images.now (misfit_in result) }
+    ensures { VerdictUnder kind first.now second.now images.now (misfit_in result) }
 {
     match kind {
         KindName::Measure => lay_by_measure(first, second, images),

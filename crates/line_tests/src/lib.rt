@@ -11,7 +11,7 @@ mod tests {
     use lines::reading::read_line;
     use replies::advice::Advice;
     use replies::answer::Answer;
-    use replies::laid::LayAnswer;
+    use replies::laid::{LayAnswer, Unpaired};
     use replies::measured::LabelAnswer;
     use replies::remedy::Remedy;
     use std::test::Fail;
@@ -57,16 +57,16 @@ mod tests {
 
     #[test]
     fn writes_a_label(rt: HostRuntime) -> Result<(), Fail> {
-        let answer = LabelAnswer::Measured {
+        let answer = LabelAnswer {
             edge: 10,
-            measures: Measures {
+            measures: Ok(Measures {
                 ee: 500,
                 eb: -400,
                 eb2: -100,
                 ec: 100,
                 bc: 0,
                 volume: -6000,
-            },
+            }),
         };
         assert_eq!(rt;
             format!(in rt.alloc(); "{answer}")?.as_str(),
@@ -78,10 +78,13 @@ mod tests {
     #[test]
     fn writes_a_misfit(rt: HostRuntime) -> Result<(), Fail> {
         let misfit = Misfit {
-            flaw: Flaw::Twice,
+            cause: Flaw::Twice,
             place: 4,
         };
-        let answer = LayAnswer::Unpaired(KindName::Mark, misfit);
+        let answer = LayAnswer {
+            kind: KindName::Mark,
+            paired: Err(Unpaired::Misfit(misfit)),
+        };
         let remedy = Remedy(misfit);
         assert_eq!(rt;
             format!(in rt.alloc(); "{answer}: {remedy}")?.as_str(),
@@ -110,7 +113,7 @@ mod tests {
             cause: Cause::LoosePoint,
             place: 3,
         };
-        let answer = Answer::Refused(fault);
+        let answer = Answer(Err(fault));
         let advice = Advice(fault);
         assert_eq!(rt;
             format!(in rt.alloc(); "{answer}: {advice}")?.as_str(),

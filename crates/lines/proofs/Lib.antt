@@ -1,4 +1,2 @@
 mod Splits
-mod Parses
-mod Fields
 mod Examples

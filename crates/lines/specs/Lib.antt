@@ -1,4 +1,5 @@
 pub mod Words
 pub mod Numbers
 pub mod Kinds
+pub mod Fields
 pub mod Lines

@@ -1,5 +1,5 @@
 -- What a line says: its first word is the command, and the others are its fields.
-use Rattle.std.specs.Prelude.{ℕ, ◌^◌, Bool, true, cond, List, [], ◌∷◌, ℤ, Some, None, Ok, Err, codes, Option, Result, ◌==◌}
+use Rattle.std.specs.Prelude.{ℕ, ◌^◌, Bool, true, List, [], ◌∷◌, ℤ, Some, None, Ok, Err, codes, Option, Result, ◌==◌, if◌then◌else◌}
 use Rattle.std.specs.Option.{ok_or, option_map}
 use Rattle.std.specs.Str.{bytes_eq}
 use Rattle.solid.specs.declared.Point.{Point}
@@ -10,8 +10,6 @@ use Rattle.lines.specs.declared.line.Line.{Line}
 use Rattle.lines.specs.declared.line.Line.TheVariants as line
 use Rattle.lines.specs.declared.line.Malformed.{Malformed}
 use Rattle.lines.specs.declared.line.Malformed.TheVariants as malformed
-use Rattle.lines.specs.declared.reading.Command.{Command}
-use Rattle.lines.specs.declared.reading.Command.TheVariants as command
 use Rattle.lines.specs.Words.{words}
 use Rattle.lines.specs.Numbers.{unsigned, signed}
 use Rattle.lines.specs.Kinds.{kind_of}
@@ -84,33 +82,22 @@ abbrev pub remark : List ℕ → Bool
 remark [] = true
 remark (b ∷ bs) = b == 35
 
--- what the first word asks for
-abbrev pub command_of : List ℕ → Command
-command_of w =
-    cond (remark w) command.Nothing
-    (cond (bytes_eq w (codes "p")) command.Point
-    (cond (bytes_eq w (codes "c")) command.Corner
-    (cond (bytes_eq w (codes "f")) command.Face
-    (cond (bytes_eq w (codes "check")) command.Check
-    (cond (bytes_eq w (codes "label")) command.Label
-    (cond (bytes_eq w (codes "i")) command.Image
-    (cond (bytes_eq w (codes "lay")) command.Lay command.Unknown)))))))
-
--- the line that a command and its fields make
-abbrev pub sentence : Command → List (List ℕ) → Result Line Malformed
-sentence command.Nothing ws = Ok line.Blank
-sentence command.Point ws = ok_or (option_map line.Point (point_fields ws)) malformed.PointFields
-sentence command.Corner ws = ok_or (option_map line.Corner (corner_fields ws)) malformed.CornerFields
-sentence command.Face ws = ok_or (option_map line.Face (face_fields ws)) malformed.FaceFields
-sentence command.Check ws = ok_or (check_fields ws) malformed.CheckFields
-sentence command.Label ws = ok_or (option_map line.Label (number_field ws)) malformed.LabelFields
-sentence command.Image ws = ok_or (option_map line.Image (number_field ws)) malformed.ImageFields
-sentence command.Lay ws = ok_or (option_map line.Lay (kind_field ws)) malformed.LayFields
-sentence command.Unknown ws = Err malformed.Command
+-- the line that a command, the first word, and its fields make
+abbrev pub sentence : List ℕ → List (List ℕ) → Result Line Malformed
+sentence w ws =
+    if remark w then Ok line.Blank
+    else if bytes_eq w (codes "p") then ok_or (option_map line.Point (point_fields ws)) malformed.PointFields
+    else if bytes_eq w (codes "c") then ok_or (option_map line.Corner (corner_fields ws)) malformed.CornerFields
+    else if bytes_eq w (codes "f") then ok_or (option_map line.Face (face_fields ws)) malformed.FaceFields
+    else if bytes_eq w (codes "check") then ok_or (check_fields ws) malformed.CheckFields
+    else if bytes_eq w (codes "label") then ok_or (option_map line.Label (number_field ws)) malformed.LabelFields
+    else if bytes_eq w (codes "i") then ok_or (option_map line.Image (number_field ws)) malformed.ImageFields
+    else if bytes_eq w (codes "lay") then ok_or (option_map line.Lay (kind_field ws)) malformed.LayFields
+    else Err malformed.Command
 
 abbrev pub line_of_words : List (List ℕ) → Result Line Malformed
 line_of_words [] = Ok line.Blank
-line_of_words (w ∷ ws) = sentence (command_of w) ws
+line_of_words (w ∷ ws) = sentence w ws
 
 -- what a line says
 abbrev pub line_of : List ℕ → Result Line Malformed

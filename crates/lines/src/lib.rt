@@ -1,8 +1,8 @@
 //! The lines that a drafter writes.
 #![tactic(auto)]
 
+mod field;
 pub mod kind;
 pub mod line;
-mod number;
 pub mod reading;
 mod word;

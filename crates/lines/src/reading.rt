@@ -1,176 +1,85 @@
 // What a line says.
 ghost use Rattle.std.specs.Prelude.{◌≡◌};
-ghost use Rattle.lines.specs.Words.{words};
-ghost use Rattle.lines.specs.Kinds.{kind_of};
-ghost use Rattle.lines.specs.Lines.{point_fields, corner_fields, face_fields, check_fields, number_field, kind_field, remark, command_of, line_of};
-ghost use Rattle.std.specs.Str.{bytes_eq};
+ghost use Rattle.lines.specs.Lines.{point_fields, corner_fields, face_fields, one, line_of};
 
-use crate::kind::KindName;
+use crate::field::{Field, value};
 use crate::line::{Line, Malformed};
-use crate::number::{coordinate, index, mark};
-use crate::word::split_word;
+use crate::word::Words;
 use drawing::record::{Corner, Face};
+use itertools::Itertools;
 use solid::Point;
 
-fn point_fields(text: &[u8]) -> Option<Point>
-    ensures { result ≡ point_fields (words text.now) }
+/// The point that three words write.
+fn point_fields(words: Words) -> Option<Point>
+    ensures { result ≡ point_fields words.entry }
 {
-    let (x, rest) = split_word(text);
-    let (y, rest) = split_word(rest);
-    let (z, rest) = split_word(rest);
-    let (more, _) = split_word(rest);
-    if !more.is_empty() {
-        return None;
-    }
+    let (x, y, z) = words.collect_tuple()?;
     Some(Point {
-        x: coordinate(x)?,
-        y: coordinate(y)?,
-        z: coordinate(z)?,
+        x: value(x)?,
+        y: value(y)?,
+        z: value(z)?,
     })
 }
 
-fn face_fields(text: &[u8]) -> Option<Face>
-    ensures { result ≡ face_fields (words text.now) }
+/// The corner that three words write.
+fn corner_fields(words: Words) -> Option<Corner>
+    ensures { result ≡ corner_fields words.entry }
 {
-    let (first, rest) = split_word(text);
-    let (more, _) = split_word(rest);
-    if !more.is_empty() {
-        return None;
-    }
-    Some(Face {
-        first: index(first)?,
-    })
-}
-
-fn corner_fields(text: &[u8]) -> Option<Corner>
-    ensures { result ≡ corner_fields (words text.now) }
-{
-    let (point, rest) = split_word(text);
-    let (colour, rest) = split_word(rest);
-    let (next, rest) = split_word(rest);
-    let (more, _) = split_word(rest);
-    if !more.is_empty() {
-        return None;
-    }
+    let (point, mark, next) = words.collect_tuple()?;
     Some(Corner {
-        point: index(point)?,
-        mark: mark(colour)?,
-        next: index(next)?,
+        point: value(point)?,
+        mark: value(mark)?,
+        next: value(next)?,
     })
 }
 
-fn check_fields(text: &[u8]) -> Option<Line>
-    ensures { result ≡ check_fields (words text.now) }
+/// The face that one word writes.
+fn face_fields(words: Words) -> Option<Face>
+    ensures { result ≡ face_fields words.entry }
 {
-    let (more, _) = split_word(text);
-    if more.is_empty() {
-        Some(Line::Check)
-    } else {
-        None
-    }
+    Some(Face {
+        first: only_field(words)?,
+    })
 }
 
-fn number_field(text: &[u8]) -> Option<usize>
-    ensures { result ≡ number_field (words text.now) }
+/// The value that one word writes.
+fn only_field<T: Field>(words: Words) -> Option<T>
+where
+    T::Err: Drop,
+    ensures { result ≡ one T.value_of words.entry }
 {
-    let (number, rest) = split_word(text);
-    let (more, _) = split_word(rest);
-    if !more.is_empty() {
-        return None;
-    }
-    index(number)
-}
-
-fn kind_name(word: &[u8]) -> Option<KindName>
-    ensures { result ≡ kind_of word.now }
-{
-    if same(word, b"measure") {
-        Some(KindName::Measure)
-    } else if same(word, b"mark") {
-        Some(KindName::Mark)
-    } else if same(word, b"both") {
-        Some(KindName::Both)
-    } else {
-        None
-    }
-}
-
-fn kind_field(text: &[u8]) -> Option<KindName>
-    ensures { result ≡ kind_field (words text.now) }
-{
-    let (name, rest) = split_word(text);
-    let (more, _) = split_word(rest);
-    if !more.is_empty() {
-        return None;
-    }
-    kind_name(name)
-}
-
-/// What the first word of a line asks for.
-#[derive(Clone, Copy)]
-enum Command {
-    Nothing,
-    Point,
-    Corner,
-    Face,
-    Check,
-    Label,
-    Image,
-    Lay,
-    Unknown,
-}
-
-/// Whether there is no word, or it begins a remark.
-fn is_remark(word: &[u8]) -> bool
-    ensures { result ≡ remark word.now }
-{
-    word.is_empty() || word[0] == b'#'
-}
-
-fn same(word: &[u8], name: &[u8]) -> bool
-    ensures { result ≡ bytes_eq word.now name.now }
-{
-    word == name
-}
-
-fn read_command(word: &[u8]) -> Command
-    ensures { result ≡ command_of word.now }
-{
-    if is_remark(word) {
-        Command::Nothing
-    } else if same(word, b"p") {
-        Command::Point
-    } else if same(word, b"c") {
-        Command::Corner
-    } else if same(word, b"f") {
-        Command::Face
-    } else if same(word, b"check") {
-        Command::Check
-    } else if same(word, b"label") {
-        Command::Label
-    } else if same(word, b"i") {
-        Command::Image
-    } else if same(word, b"lay") {
-        Command::Lay
-    } else {
-        Command::Unknown
-    }
+    let (word,) = words.collect_tuple()?;
+    value(word)
 }
 
 /// What a line says: its first word is the command, and the others are its fields.
 pub fn read_line(text: &[u8]) -> Result<Line, Malformed>
     ensures { result ≡ line_of text.now }
 {
-    let (word, fields) = split_word(text);
-    match read_command(word) {
-        Command::Nothing => Ok(Line::Blank),
-        Command::Point => Ok(Line::Point(point_fields(fields).ok_or(Malformed::PointFields)?)),
-        Command::Corner => Ok(Line::Corner(corner_fields(fields).ok_or(Malformed::CornerFields)?)),
-        Command::Face => Ok(Line::Face(face_fields(fields).ok_or(Malformed::FaceFields)?)),
-        Command::Check => check_fields(fields).ok_or(Malformed::CheckFields),
-        Command::Label => Ok(Line::Label(number_field(fields).ok_or(Malformed::LabelFields)?)),
-        Command::Image => Ok(Line::Image(number_field(fields).ok_or(Malformed::ImageFields)?)),
-        Command::Lay => Ok(Line::Lay(kind_field(fields).ok_or(Malformed::LayFields)?)),
-        Command::Unknown => Err(Malformed::Command),
+    let mut words = Words::new(text);
+    match words.next().unwrap_or(b"") {
+        // no words, or a remark
+        [] | [b'#', ..] => Ok(Line::Blank),
+        b"p" => point_fields(words)
+            .map(Line::Point)
+            .ok_or(Malformed::PointFields),
+        b"c" => corner_fields(words)
+            .map(Line::Corner)
+            .ok_or(Malformed::CornerFields),
+        b"f" => face_fields(words)
+            .map(Line::Face)
+            .ok_or(Malformed::FaceFields),
+        b"check" => match words.next() {
+            None => Ok(Line::Check),
+            Some(_) => Err(Malformed::CheckFields),
+        },
+        b"label" => only_field(words)
+            .map(Line::Label)
+            .ok_or(Malformed::LabelFields),
+        b"i" => only_field(words)
+            .map(Line::Image)
+            .ok_or(Malformed::ImageFields),
+        b"lay" => only_field(words).map(Line::Lay).ok_or(Malformed::LayFields),
+        _ => Err(Malformed::Command),
     }
 }

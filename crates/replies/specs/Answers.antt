@@ -1,10 +1,8 @@
 -- The answer to a check, as it is written.
-use Rattle.std.specs.Prelude.{ℕ, List, ◌++◌, codes, decimal}
-use Rattle.drawing.specs.Causes.{number}
-use Rattle.replies.specs.declared.answer.Answer.{Answer}
-use Rattle.replies.specs.declared.answer.Answer.TheVariants.{Sound, Refused}
+use Rattle.std.specs.Prelude.{ℕ, List, ◌++◌, Ok, Err, Result, codes, decimal}
+use Rattle.drawing.specs.Causes.{Fault, number}
 
 -- the number of the check that failed, and the place; or 0, and how many edges there are
-abbrev pub written : Answer → List ℕ
-written (Sound edges) = codes "check 0 " ++ decimal edges
-written (Refused fault) = codes "check " ++ (decimal (number fault.cause) ++ (codes " " ++ decimal fault.place))
+abbrev pub written : Result ℕ Fault → List ℕ
+written (Ok edges) = codes "check 0 " ++ decimal edges
+written (Err fault) = codes "check " ++ (decimal (number fault.cause) ++ (codes " " ++ decimal fault.place))

@@ -5,32 +5,34 @@ ghost use Rattle.replies.specs.Advice.{subject_of};
 use drawing::fault::{Cause, Fault};
 use std::fmt;
 
-/// What the place of a refusal is the number of.
+/// The record that a refusal speaks of, by its number.
 #[derive(Clone, Copy)]
 pub enum Subject {
     /// the drawing as a whole, and no one record
     Drawing,
-    Point,
-    Corner,
-    Face,
-    Edge,
+    Point(usize),
+    Corner(usize),
+    Face(usize),
+    Edge(usize),
 }
 
-impl Subject {
-    pub fn of(fault: Fault) -> Self
-        ensures { result ≡ subject_of fault }
-    {
-        if fault.place == 0 {
+impl From<Fault> for Subject {
+    ghost from_gives = { λ fault r. r ≡ subject_of fault };
+
+    fn from(fault: Fault) -> Self {
+        let place = fault.place;
+        // a place is a number in the words for programs, and 0 there is the drawing
+        if place == 0 {
             return Subject::Drawing;
         }
         match fault.cause {
             Cause::TableCount | Cause::NoVolume => Subject::Drawing,
             Cause::Coordinate | Cause::LoosePoint | Cause::DoublePoint | Cause::PinchedPoint =>
-                Subject::Point,
-            Cause::PointNumber => Subject::Corner,
-            Cause::BrokenChain => Subject::Face,
+                Subject::Point(place),
+            Cause::PointNumber => Subject::Corner(place),
+            Cause::BrokenChain => Subject::Face(place),
             Cause::UnmatchedEdge | Cause::UnreachedEdge | Cause::BentFace | Cause::LevelFaces =>
-                Subject::Edge,
+                Subject::Edge(place),
         }
     }
 }
@@ -39,10 +41,10 @@ impl fmt::Display for Subject {
     fn fmt<W: fmt::Write>(&self, f: &mut fmt::Formatter<W>) -> fmt::Result {
         match self {
             Subject::Drawing => f.write_str("drawing"),
-            Subject::Point => f.write_str("point"),
-            Subject::Corner => f.write_str("corner"),
-            Subject::Face => f.write_str("face"),
-            Subject::Edge => f.write_str("edge"),
+            Subject::Point(number) => write!(f, "point {number}"),
+            Subject::Corner(number) => write!(f, "corner {number}"),
+            Subject::Face(number) => write!(f, "face {number}"),
+            Subject::Edge(number) => write!(f, "edge {number}"),
         }
     }
 }
@@ -53,15 +55,15 @@ pub struct Advice(pub Fault);
 
 impl fmt::Display for Advice {
     fn fmt<W: fmt::Write>(&self, f: &mut fmt::Formatter<W>) -> fmt::Result {
-        let no_place = self.0.place == 0;
-        match self.0.cause {
+        let Advice(fault) = self;
+        match fault.cause {
             Cause::TableCount => f.write_str(
                 "a table is too short or too long; give 4 to 160 points, 12 to 480 corners and 4 to 160 faces",
             ),
             Cause::Coordinate => f.write_str(
                 "a coordinate is outside -8000 to 8000; move the point, or see that it is given in millimetres",
             ),
-            Cause::BrokenChain if no_place => f.write_str(
+            Cause::BrokenChain if fault.place == 0 => f.write_str(
                 "a corner is in no face; let a chain run through it, or leave it out",
             ),
             Cause::BrokenChain => f.write_str(

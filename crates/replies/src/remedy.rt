@@ -9,7 +9,7 @@ pub struct Remedy(pub Misfit);
 impl fmt::Display for Remedy {
     fn fmt<W: fmt::Write>(&self, f: &mut fmt::Formatter<W>) -> fmt::Result {
         let place = self.0.place;
-        match self.0.flaw {
+        match self.0.cause {
             Flaw::Length => f.write_str(
                 "there are not as many images as the first drawing has edges; give one for each of its edges",
             ),

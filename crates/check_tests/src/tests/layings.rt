@@ -36,13 +36,13 @@ const SWAPPED: [usize; 12] = [1, 3, 2, 4, 5, 6, 7, 8, 9, 10, 11, 12];
 /// The first face is turned, and the others are not.
 const TURNED_FACE: [usize; 12] = [2, 3, 1, 4, 5, 6, 7, 8, 9, 10, 11, 12];
 
+/// The six numbers in a row, as the works give them.
 fn numbers(x: Option<Measures>) -> Option<[i64; 6]> {
-    let x = x?;
-    Some([x.ee, x.eb, x.eb2, x.ec, x.bc, x.volume])
+    x.map(|x| [x.ee, x.eb, x.eb2, x.ec, x.bc, x.volume])
 }
 
-fn flaw(flaw: Flaw, place: usize) -> Result<(), Misfit> {
-    Err(Misfit { flaw, place })
+fn flaw(cause: Flaw, place: usize) -> Result<(), Misfit> {
+    Err(Misfit { cause, place })
 }
 
 /// The wedge, or its mirror image: `width` is 10 or -10.
