@@ -11,7 +11,7 @@ use Rattle.drawing.proofs.Linking.{next_onto}
 use Rattle.drawing.proofs.Passing.{passes_flat, passes_level, passes_volume}
 use Rattle.drawing.proofs.Judgement.{below_more, sound_below, refused_below, refused_once, sound_not_refused}
 use Rattle.tables.specs.declared.wiring.Wiring.{Wiring}
-use Rattle.tables.specs.Wirings.{net_of, Wired}
+use Rattle.tables.specs.Wirings.{net_of, used, Wired}
 use Rattle.tables.proofs.Passed.{edges_are, all_matched, wired_passes}
 use Rattle.shape.specs.Edges.{shown, Placed, EdgeList}
 use Rattle.shape.specs.Wedges.{Listed}
@@ -26,27 +26,27 @@ module _ (t : Tables) (w : Wiring) (h : Wired t w) where
   pub placed : Placed t.points (starts_of t.corners)
   placed = record { near = h.near; start_within = h.mesh.start_within }
 
-  pub nexts : EdgeList (length (starts_of t.corners)) w.next.items
+  pub nexts : EdgeList (length (starts_of t.corners)) (used t w.next)
   nexts = record { size = h.mesh.next_size; within = h.mesh.next_within }
 
-  pub opposites : EdgeList (length (starts_of t.corners)) w.opposite.items
+  pub opposites : EdgeList (length (starts_of t.corners)) (used t w.opposite)
   opposites = record { size = h.mesh.opposite_size; within = h.mesh.opposite_within }
 
-  pub orders : EdgeList (length (starts_of t.corners)) w.order.items
+  pub orders : EdgeList (length (starts_of t.corners)) (used t w.order)
   orders = rw (edges_are t w h) (record { size = h.order_size; within = h.order_within })
 
-  pub homes : EdgeList (length (starts_of t.corners)) w.home.items
+  pub homes : EdgeList (length (starts_of t.corners)) (used t w.home)
   homes = rw (edges_are t w h) (record { size = h.home_size; within = h.home_within })
 
   pub few : length (starts_of t.corners) ≤ 480
   few = omega (arith, edges_are t w h, h.counts.corners_to)
 
-  pub listed : Listed w.next.items w.order.items w.home.items h.draws.linked.rounds
+  pub listed : Listed (used t w.next) (used t w.order) (used t w.home) h.draws.linked.rounds
   listed = record { order_is = h.order_is; goes_round = h.draws.linked.goes_round; homes = h.homes }
 
   -- the same net, without its marks
   abbrev plain : Net
-  plain = shown t.points (starts_of t.corners) w.next.items w.opposite.items
+  plain = shown t.points (starts_of t.corners) (used t w.next) (used t w.opposite)
 
   pub shape_refused : (f : Fault) → ShapeRefused plain h.draws.linked.rounds f → Refused t f
   shape_refused f (bent r) =
@@ -87,7 +87,7 @@ module _ (t : Tables) (w : Wiring) (h : Wired t w) where
 
     before : (f : ℕ) → f < edges m → Previous m f
     before f lt =
-        let b = next_onto t.corners t.faces w.next.items h.draws.linked f (omega (arith, edges_are t w h)) in
+        let b = next_onto t.corners t.faces (used t w.next) h.draws.linked f (omega (arith, edges_are t w h)) in
         record { edge = b.0; within = omega (arith, edges_are t w h, b.1); leads = b.2 }
 
     of_net : Checked m
@@ -114,11 +114,11 @@ module _ (t : Tables) (w : Wiring) (h : Wired t w) where
     }
 
     pub checked : Checked (net_from t.points t.corners w)
-    checked = subst (λ (starts : List ℕ). Checked (record { points = t.points; starts = starts; marks = marks_of t.corners; next = w.next.items; opposite = w.opposite.items })) (sym h.starts_are) of_net
+    checked = subst (λ (starts : List ℕ). Checked (record { points = t.points; starts = starts; marks = marks_of t.corners; next = used t w.next; opposite = used t w.opposite })) (sym h.starts_are) of_net
 
     -- and the block that holds it is drawn by the tables
     pub drawn : Draws t (net_from t.points t.corners w)
-    drawn = subst (λ (starts : List ℕ). Draws t (record { points = t.points; starts = starts; marks = marks_of t.corners; next = w.next.items; opposite = w.opposite.items })) (sym h.starts_are) h.draws
+    drawn = subst (λ (starts : List ℕ). Draws t (record { points = t.points; starts = starts; marks = marks_of t.corners; next = used t w.next; opposite = used t w.opposite })) (sym h.starts_are) h.draws
 
 -- exactly one verdict
 module _ (t : Tables) where

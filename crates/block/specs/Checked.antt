@@ -1,5 +1,5 @@
 -- What holds of the net of every checked block.
-use Rattle.std.specs.Prelude.{◌≡◌, ℕ, ◌<◌, ◌≤◌, ◌≢◌, List, length, pos}
+use Rattle.std.specs.Prelude.{◌≡◌, ℕ, ◌<◌, ◌≤◌, ◌≢◌, List, length, take, pos}
 use Rattle.solid.specs.declared.Point.{Point}
 use Rattle.solid.specs.Points.{Near}
 use Rattle.drawing.specs.declared.record.Corner.{Corner}
@@ -46,4 +46,6 @@ pub record Checked (m : Net) : Type 0 where
 
 -- the net of these points, the marks of these corners, and this wiring
 abbrev pub net_from : List Point → List Corner → Wiring → Net
-net_from ps cs w = record { points = ps; starts = w.starts.items; marks = marks_of cs; next = w.next.items; opposite = w.opposite.items }
+net_from ps cs w =
+    let n = length cs in
+    record { points = ps; starts = take n w.starts; marks = marks_of cs; next = take n w.next; opposite = take n w.opposite }

@@ -13,18 +13,19 @@ use drawing::fault::Fault;
 use drawing::record::{Corner, Face};
 use solid::Point;
 
-/// The edges of a drawing that passed, in lists with an item for each corner.
+/// The edges of a drawing that passed, in lists with a place for each corner; the places beyond are free.
 // Lists, and no list of records: each comes from a check of its own, and a record would have holes until the last.
-#[derive(Drop)]
+// Arrays: who has a wiring may copy it, and an `ArrayVec` cannot be copied.
+#[derive(Clone, Copy)]
 pub struct Wiring {
     /// the index of the point at which each edge starts
-    pub starts: ArrayVec<usize, 480>,
-    pub next: ArrayVec<usize, 480>,
-    pub opposite: ArrayVec<usize, 480>,
+    pub starts: [usize; 480],
+    pub next: [usize; 480],
+    pub opposite: [usize; 480],
     /// the corners, chain by chain
-    pub order: ArrayVec<usize, 480>,
+    pub order: [usize; 480],
     /// the first corner of each corner's chain
-    pub home: ArrayVec<usize, 480>,
+    pub home: [usize; 480],
 }
 
 /// The index of the point at which the edge of each corner starts.
@@ -38,6 +39,13 @@ fn start_points(corners: &[Corner]) -> ArrayVec<usize, 480>
         starts.push(c.point - 1);
     }
     starts
+}
+
+/// Puts the items of a list into the first places.
+fn fill(places: &mut [usize; 480], list: &ArrayVec<usize, 480>)
+    ensures { take (length list.now.items) places.new ≡ list.now.items }
+{
+    places[..list.len()].copy_from_slice(list.as_slice());
 }
 
 /// Makes the checks of the tables, and answers the edges, or the first check that fails with its place.
@@ -56,11 +64,17 @@ pub fn wire(points: &[Point], corners: &[Corner], faces: &[Face]) -> Result<Wiri
         next: next.as_slice(),
     };
     let opposite = seams.join()?;
-    Ok(Wiring {
-        starts,
-        next,
-        opposite,
-        order: chains.order,
-        home: chains.home,
-    })
+    let mut wiring = Wiring {
+        starts: [0; 480],
+        next: [0; 480],
+        opposite: [0; 480],
+        order: [0; 480],
+        home: [0; 480],
+    };
+    fill(&mut wiring.starts, &starts);
+    fill(&mut wiring.next, &next);
+    fill(&mut wiring.opposite, &opposite);
+    fill(&mut wiring.order, &chains.order);
+    fill(&mut wiring.home, &chains.home);
+    Ok(wiring)
 }

@@ -1,5 +1,5 @@
 // The drawing checks.
-ghost use Rattle.std.specs.Prelude.{◌≡◌, ◌≤◌, length, map, IfOk, Option};
+ghost use Rattle.std.specs.Prelude.{◌≡◌, ◌≤◌, length, map, take, IfOk, Option};
 ghost use Rattle.drawing.specs.Causes.{Fault};
 ghost use Rattle.drawing.specs.Nets.{marks_of};
 ghost use Rattle.drawing.specs.Verdicts.{tables, Draws};
@@ -17,13 +17,10 @@ use tables::wiring::{Wiring, wire};
 /// The edges of a drawing that passed, one for each corner.
 fn edges_of(corners: &[Corner], wiring: &Wiring) -> ArrayVec<Edge, 480>
     requires few { length corners.now ≤ 480 }
-    requires starts { length wiring.now.starts.items ≡ length corners.now }
-    requires next { length wiring.now.next.items ≡ length corners.now }
-    requires opposite { length wiring.now.opposite.items ≡ length corners.now }
-    ensures starts { map (λ e. e.start) result.items ≡ wiring.now.starts.items }
+    ensures starts { map (λ e. e.start) result.items ≡ take (length corners.now) wiring.now.starts }
     ensures marks { map (λ e. e.mark) result.items ≡ marks_of corners.now }
-    ensures next { map (λ e. e.next) result.items ≡ wiring.now.next.items }
-    ensures opposite { map (λ e. e.opposite) result.items ≡ wiring.now.opposite.items }
+    ensures next { map (λ e. e.next) result.items ≡ take (length corners.now) wiring.now.next }
+    ensures opposite { map (λ e. e.opposite) result.items ≡ take (length corners.now) wiring.now.opposite }
 {
     // by index, and pushed: four lists in step are no plainer zipped, and to collect into an `ArrayVec` asks for an allocator
     let mut edges = ArrayVec::new();
@@ -60,13 +57,14 @@ pub fn check(points: &[Point], corners: &[Corner], faces: &[Face]) -> Result<Blo
     ensures drawn { IfOk result (λ b. Draws (tables points.now corners.now faces.now) b) }
 {
     let wiring = wire(points, corners, faces)?;
+    let n = corners.len();
     let edges = Edges {
         points,
-        starts: wiring.starts.as_slice(),
-        next: wiring.next.as_slice(),
-        opposite: wiring.opposite.as_slice(),
-        order: wiring.order.as_slice(),
-        home: wiring.home.as_slice(),
+        starts: &wiring.starts[0..n],
+        next: &wiring.next[0..n],
+        opposite: &wiring.opposite[0..n],
+        order: &wiring.order[0..n],
+        home: &wiring.home[0..n],
     };
     edges.check_shape()?;
     Ok(assemble(points, corners, &wiring))

@@ -36,4 +36,4 @@ returns c =
     let complete = c.in_ok-chains.ensures in
     let closed = rw (c.as_slice-2.ensures.value, c.start_points-starts.ensures, c.as_slice-3.ensures.value) at c.in_ok-opposite.ensures in
     wired (tables _ _ _) counts c.in_ok-points_in_range.ensures _ _ complete _ c.next_edges-next.ensures.size next c.in_ok-check_points.ensures _ closed
-    c.start_points-starts.result c.start_points-starts.ensures
+    _ _ c.start_points-starts.ensures c.fill.ensures c.fill-2.ensures c.fill-3.ensures c.fill-4.ensures c.fill-5.ensures

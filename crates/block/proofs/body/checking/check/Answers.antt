@@ -1,4 +1,5 @@
-use Rattle.std.proofs.Common.{sym, subst}
+use native.Mathlib.Nat.{sub-zero}
+use Rattle.std.proofs.Common.{length, sym, subst}
 use Rattle.std.proofs.lemmas.Result.{err_from_is_err_and}
 use Rattle.drawing.specs.Nets.{Net}
 use Rattle.drawing.specs.Verdicts.{tables, Draws}
@@ -17,7 +18,7 @@ invariant_of-edges c =
     let t = tables c.args.points.now c.args.corners.now c.args.faces.now in
     let w = c.in_ok-wiring.wiring in
     let h = c.in_ok-wiring.ensures in
-    rw (c.as_slice.ensures.value, c.as_slice-2.ensures.value, c.as_slice-3.ensures.value, c.as_slice-4.ensures.value, c.as_slice-5.ensures.value, h.starts_are)
+    rw (sub-zero (length c.args.corners.now), h.starts_are)
     (record { placed = placed t w h; nexts = nexts t w h; opposites = opposites t w h; orders = orders t w h; homes = homes t w h; few = few t w h })
 
 pub returns-in_err-check_shape : goal.returns-in_err-check_shape
@@ -26,7 +27,7 @@ returns-in_err-check_shape c =
     let t = tables c.args.points.now c.args.corners.now c.args.faces.now in
     let w = c.in_ok-wiring.wiring in
     let h = c.in_ok-wiring.ensures in
-    let e = rw (c.as_slice.ensures.value, c.as_slice-2.ensures.value, c.as_slice-3.ensures.value, c.as_slice-4.ensures.value, c.as_slice-5.ensures.value, h.starts_are) at c.in_err-check_shape.ensures in
+    let e = rw (sub-zero (length c.args.corners.now), h.starts_are) at c.in_err-check_shape.ensures in
     let r = shape_refused t w h _ (e _ (listed t w h)) in
     rw (p.1, p.2) (record { verdict = r; only = only_refusal _ _ r; checked = tt; drawn = tt })
 
@@ -35,7 +36,7 @@ assemble-requires c =
     let t = tables c.args.points.now c.args.corners.now c.args.faces.now in
     let w = c.in_ok-wiring.wiring in
     let h = c.in_ok-wiring.ensures in
-    let e = rw (c.as_slice.ensures.value, c.as_slice-2.ensures.value, c.as_slice-3.ensures.value, c.as_slice-4.ensures.value, c.as_slice-5.ensures.value, h.starts_are) at c.in_ok-check_shape.ensures in
+    let e = rw (sub-zero (length c.args.corners.now), h.starts_are) at c.in_ok-check_shape.ensures in
     checked t w h (e _ (listed t w h))
 
 pub returns : goal.returns
@@ -43,7 +44,7 @@ returns c =
     let t = tables c.args.points.now c.args.corners.now c.args.faces.now in
     let w = c.in_ok-wiring.wiring in
     let h = c.in_ok-wiring.ensures in
-    let e = rw (c.as_slice.ensures.value, c.as_slice-2.ensures.value, c.as_slice-3.ensures.value, c.as_slice-4.ensures.value, c.as_slice-5.ensures.value, h.starts_are) at c.in_ok-check_shape.ensures in
+    let e = rw (sub-zero (length c.args.corners.now), h.starts_are) at c.in_ok-check_shape.ensures in
     let s = e _ (listed t w h) in
     let good = sound t w h s in
     record {
