@@ -2,6 +2,7 @@
 use Rattle.std.specs.Prelude.{◌≡◌, ℕ, Bool, ◌&&◌, List, Some, None, Option, Ok, Err, Result, ◌==◌, nat_eq}
 use Rattle.drawing.specs.Nets.{Net, edges}
 use Rattle.block.specs.declared.body.Block.{Block}
+use Rattle.block.specs.Checked.{Checked}
 use Rattle.label.specs.declared.measures.Measures.{Measures}
 use Rattle.label.specs.declared.both.Labels.{Labels}
 use Rattle.label.specs.Measured.{measure, mark, Asked}
@@ -40,10 +41,10 @@ AnswersLabelIn m e (Ok x) = Asked m e (Some x)
 AnswersLabelIn m e (Err (NoEdge n)) = (n ≡ edges m) × Asked m e None
 AnswersLabelIn m e (Err NoBlock) = ⊥
 
--- The answer to a label line: of the last block, if there is one.
+-- The answer to a label line: of the last block, if there is one, which is a checked one.
 abbrev pub AnswersLabel : Option Block → ℕ → Result Measures Unmeasured → Type 0
 AnswersLabel None e r = r ≡ Err NoBlock
-AnswersLabel (Some b) e r = AnswersLabelIn b e r
+AnswersLabel (Some b) e r = Checked b × AnswersLabelIn b e r
 
 module _ {T : Type 0} where
   -- A pairing under this kind, or none for the first flaw.
@@ -52,8 +53,8 @@ module _ {T : Type 0} where
   AnswersLayOn a b k images (Err (unpaired.Misfit misfit)) = VerdictUnder k a b images (Some misfit)
   AnswersLayOn a b k images (Err unpaired.NoPair) = ⊥
 
-  -- The answer to a lay line: of the last block but one and the last, if there are both.
+  -- The answer to a lay line: of the last block but one and the last, if there are both, which are checked ones.
   abbrev pub AnswersLay : Option Block → Option Block → KindName → List ℕ → Result T Unpaired → Type 0
   AnswersLay None last k images r = r ≡ Err unpaired.NoPair
   AnswersLay (Some a) None k images r = r ≡ Err unpaired.NoPair
-  AnswersLay (Some a) (Some b) k images r = AnswersLayOn a b k images r
+  AnswersLay (Some a) (Some b) k images r = (Checked a × Checked b) × AnswersLayOn a b k images r

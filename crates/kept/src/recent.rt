@@ -1,5 +1,6 @@
 // The last two sound drawings.
 ghost use Rattle.std.specs.Prelude.{◌≡◌};
+ghost use Rattle.block.specs.Checked.{Checked};
 ghost use Rattle.laying.specs.Layings.{misfit_in};
 ghost use Rattle.kept.specs.Keeping.{kept};
 ghost use Rattle.kept.specs.Answered.{VerdictUnder, AnswersLabel, AnswersLay};
@@ -55,7 +56,8 @@ impl Recent {
 /// Tries a laying under the kind of this name.
 // Kinds are types, and a line names one of three: a match is as plain as a table of functions.
 fn lay_under(kind: KindName, first: &Block, second: &Block, images: &[usize]) -> Result<(), Misfit>
-    ensures { VerdictUnder kind first.now second.now images.now (misfit_in result) }
+    ensures verdict { VerdictUnder kind first.now second.now images.now (misfit_in result) }
+    ensures checked { (Checked first.now) × (Checked second.now) }
 {
     match kind {
         KindName::Measure => lay_by_measure(first, second, images),

@@ -10,7 +10,7 @@ by_shape : {X : Type 0} (a b : Net) (images : List â„•) (r : Result X Misfit) â†
 by_shape a b images (Ok x) h = h
 by_shape a b images (Err m) h = h
 
-pub returns-in-Measure : goal.returns-in-Measure
-returns-in-Measure c =
+pub returns-in-Measure-clause-verdict : goal.returns-in-Measure-clause-verdict
+returns-in-Measure-clause-verdict c =
     let m = c.lay_by_measure.ensures.measured in
     rw c.in-Measure.is (m.tried.verdict, by_shape _ _ _ _ m.exactly)
