@@ -33,7 +33,10 @@ fn write_check<W: fmt::Write>(answer: Answer, f: &mut fmt::Formatter<W>) -> fmt:
             let layer = fault.cause.layer();
             let subject = Subject::from(fault);
             let advice = Advice(fault);
-            write!(f, "{answer} {layer}: {subject}: {advice}")
+            match fault.place {
+                0 => write!(f, "{answer} {layer}: {subject}: {advice}"),
+                place => write!(f, "{answer} {layer}: {subject} {place}: {advice}"),
+            }
         }
     }
 }

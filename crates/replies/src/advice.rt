@@ -37,14 +37,15 @@ impl From<Fault> for Subject {
     }
 }
 
+// The word alone: who writes it says where the number stands.
 impl fmt::Display for Subject {
     fn fmt<W: fmt::Write>(&self, f: &mut fmt::Formatter<W>) -> fmt::Result {
         match self {
             Subject::Drawing => f.write_str("drawing"),
-            Subject::Point(number) => write!(f, "point {number}"),
-            Subject::Corner(number) => write!(f, "corner {number}"),
-            Subject::Face(number) => write!(f, "face {number}"),
-            Subject::Edge(number) => write!(f, "edge {number}"),
+            Subject::Point(_) => f.write_str("point"),
+            Subject::Corner(_) => f.write_str("corner"),
+            Subject::Face(_) => f.write_str("face"),
+            Subject::Edge(_) => f.write_str("edge"),
         }
     }
 }
