@@ -7,13 +7,14 @@ pub mod checking;
 pub mod edges;
 
 /// A directed edge of a block, by indices from 0.
+// Indices of 16 bits: there are few, and who tries a laying goes through all edges of two blocks again and again.
 #[derive(Clone, Copy, Default)]
 struct Edge {
     /// the point at which it starts
-    start: usize,
+    start: u16,
     mark: u8,
-    next: usize,
-    opposite: usize,
+    next: u16,
+    opposite: u16,
 }
 
 /// A drawing that passed all checks: its points and its directed edges.

@@ -1,6 +1,7 @@
 // The drawing checks.
-ghost use Rattle.std.specs.Prelude.{◌≡◌, ◌≤◌, length, map, take, IfOk, Option};
+ghost use Rattle.std.specs.Prelude.{◌≡◌, ℕ, ◌<◌, ◌≤◌, ◌^◌, length, map, take, IfOk, Option};
 ghost use Rattle.drawing.specs.Causes.{Fault};
+ghost use Rattle.drawing.specs.Lists.{at};
 ghost use Rattle.drawing.specs.Nets.{marks_of};
 ghost use Rattle.drawing.specs.Verdicts.{tables, Draws};
 ghost use Rattle.block.specs.Checked.{Checked, net_from};
@@ -17,6 +18,7 @@ use tables::wiring::{Wiring, wire};
 /// The edges of a drawing that passed, one for each corner.
 fn edges_of(corners: &[Corner], wiring: &Wiring) -> ArrayVec<Edge, 480>
     requires few { length corners.now ≤ 480 }
+    requires small { (k : ℕ) → k < length corners.now → (at wiring.now.starts k < 2 ^ 16) × ((at wiring.now.next k < 2 ^ 16) × (at wiring.now.opposite k < 2 ^ 16)) }
     ensures starts { map (λ e. e.start) result.items ≡ take (length corners.now) wiring.now.starts }
     ensures marks { map (λ e. e.mark) result.items ≡ marks_of corners.now }
     ensures next { map (λ e. e.next) result.items ≡ take (length corners.now) wiring.now.next }
@@ -26,10 +28,10 @@ fn edges_of(corners: &[Corner], wiring: &Wiring) -> ArrayVec<Edge, 480>
     let mut edges = ArrayVec::new();
     for (k, corner) in corners.iter().enumerate() {
         edges.push(Edge {
-            start: wiring.starts[k],
+            start: wiring.starts[k] as u16,
             mark: corner.mark,
-            next: wiring.next[k],
-            opposite: wiring.opposite[k],
+            next: wiring.next[k] as u16,
+            opposite: wiring.opposite[k] as u16,
         });
     }
     edges

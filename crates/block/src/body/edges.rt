@@ -24,7 +24,7 @@ impl Block {
         ensures is { result ≡ next self.now edge }
         ensures within { result < edges self.now }
     {
-        self.edges[edge].next
+        usize::from(self.edges[edge].next)
     }
 
     /// The edge between the same points, the other way. For the crates above: the block is to have the edge.
@@ -33,7 +33,7 @@ impl Block {
         ensures is { result ≡ opposite self.now edge }
         ensures within { result < edges self.now }
     {
-        self.edges[edge].opposite
+        usize::from(self.edges[edge].opposite)
     }
 
     /// Where a step from the edge leads. For the crates above: the block is to have the edge.
@@ -61,7 +61,7 @@ impl Block {
         requires { edge < edges self.now }
         ensures { result ≡ start self.now edge }
     {
-        self.edges[edge].start
+        usize::from(self.edges[edge].start)
     }
 
     /// The point at which the edge starts. For the crates above: the block is to have the edge.
@@ -70,7 +70,7 @@ impl Block {
         ensures is { result ≡ point_at self.now (start self.now edge) }
         ensures near { Near result }
     {
-        self.points[self.edges[edge].start]
+        self.points[usize::from(self.edges[edge].start)]
     }
 
     /// From the start of the edge to its end. For the crates above: the block is to have the edge.
