@@ -20,6 +20,7 @@ pub struct Edge<L> {
     pub next: usize,
     pub opposite: usize,
     /// the lowest running number in its part, or 0 where it has none yet; running numbers count the edges from 1, through all blocks
+    // A rule of the project: running numbers are from 1, and a catalogue answers them.
     pub part: usize,
     pub label: L,
 }

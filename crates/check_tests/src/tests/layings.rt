@@ -36,8 +36,8 @@ const SWAPPED: [usize; 12] = [1, 3, 2, 4, 5, 6, 7, 8, 9, 10, 11, 12];
 /// The first face is turned, and the others are not.
 const TURNED_FACE: [usize; 12] = [2, 3, 1, 4, 5, 6, 7, 8, 9, 10, 11, 12];
 
-/// The six numbers in a row, as the works give them.
-/// The six numbers of a label. By hand, and no conversion of the type: it keeps the expected values as they are written.
+/// The six numbers of a label, in a row as the works give them.
+// By hand, and no conversion of the type: it keeps the expected values as they are written.
 fn numbers(x: Option<Measures>) -> Option<[i64; 6]> {
     x.map(|x| [x.ee, x.eb, x.eb2, x.ec, x.bc, x.volume])
 }
